@@ -1,0 +1,4 @@
+pub mod Fcs
+pub mod Law
+pub mod Published
+pub mod Written

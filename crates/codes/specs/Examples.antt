@@ -1,0 +1,9 @@
+-- A worked example of the scrambler: octets given to it, and the line octets they become from a register of zeros.
+use Prim.Native.Nat.{ℕ}
+use mathlib.Core.List.{List, [], _∷_}
+
+abbrev pub example-given : List ℕ
+example-given = 0x7e ∷ 0x04 ∷ 0x03 ∷ 0x00 ∷ 0x21 ∷ 0x7d ∷ 0x5e ∷ 0x7d ∷ 0xdd ∷ 0x7d ∷ 0x7e ∷ []
+
+abbrev pub example-line : List ℕ
+example-line = 0x7e ∷ 0x04 ∷ 0x03 ∷ 0x00 ∷ 0x21 ∷ 0x72 ∷ 0x9e ∷ 0xfd ∷ 0xbd ∷ 0x79 ∷ 0x50 ∷ []

@@ -1,0 +1,4 @@
+pub mod Rules
+pub mod Bitline
+pub mod Mirror
+pub mod Examples
