@@ -1,0 +1,4 @@
+pub mod Check
+pub mod Law
+pub mod Sum
+pub mod Tiles
