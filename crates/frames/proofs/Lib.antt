@@ -1,0 +1,12 @@
+pub mod Settled
+pub mod Rooms
+pub mod Feeds
+pub mod Reached
+pub mod Cutting
+pub mod Joining
+pub mod Readings
+pub mod Lines
+pub mod Sent
+pub mod Grammar
+pub mod Once
+pub mod Ends

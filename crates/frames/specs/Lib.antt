@@ -1,0 +1,11 @@
+pub mod Numbers
+pub mod Terms
+pub mod Of
+pub mod Layout
+pub mod Calls
+pub mod Receiving
+pub mod Following
+pub mod Pieces
+pub mod Hearing
+pub mod Worked
+pub mod Promise

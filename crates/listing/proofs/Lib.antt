@@ -1,0 +1,2 @@
+mod Stepping
+mod Started
