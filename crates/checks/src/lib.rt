@@ -1,4 +1,6 @@
 // The frame check: what any check is, the two of RFC 1662, and their law.
+#![tactic(auto)]
+
 mod fcs;
 mod owed;
 mod published;

@@ -1,4 +1,6 @@
 // Line codes: what any is, the kinds, and their laws.
+#![tactic(auto)]
+
 mod examples;
 mod mirrored;
 mod pile;

@@ -1,4 +1,6 @@
 // Whole runs over both ends: any list of calls, and the line that they write heard to its end.
+#![tactic(auto)]
+
 mod lent;
 mod run;
 mod sent;

@@ -1,4 +1,6 @@
 // What frames are: the terms of a link, the answers with their numbers, and the definitions of what is sent and read.
+#![tactic(auto)]
+
 mod answers;
 mod settings;
 mod standing;

@@ -1,4 +1,6 @@
 // Whole lines heard: by any stretches, from the start or from a late joining.
+#![tactic(auto)]
+
 mod heard;
 mod line;
 

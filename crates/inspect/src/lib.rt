@@ -1,4 +1,6 @@
 // What octets become on a line: one line of a listing for each line that asks.
+#![tactic(auto)]
+
 mod carried;
 mod code;
 mod keeping;

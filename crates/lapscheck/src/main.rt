@@ -1,4 +1,6 @@
 // Reads requests from standard input, one a line, and prints a row for each.
+#![tactic(auto)]
+
 use inspect::{inspect, keep, refusal};
 use std::alloc::Global;
 use std::io;

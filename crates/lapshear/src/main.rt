@@ -1,5 +1,7 @@
 // Lists what a receiver reports of a line, whose octets standard input gives as hexadecimal digits. The arguments are pairs of
 // numbers: the place where the receiver joins the line, and the length of the stretches that it is fed.
+#![tactic(auto)]
+
 use checks::Fcs32;
 use codes::Scrambler;
 use frames::Settings;

@@ -1,4 +1,6 @@
 // Reads a script from standard input and writes its listing.
+#![tactic(auto)]
+
 ghost use Rattle.std.specs.Prelude.{◌≤◌, length, IfOk};
 
 use listing::run_script;

@@ -1,4 +1,6 @@
 // Runs each script that its arguments name and writes its listing under the script's name.
+#![tactic(auto)]
+
 use listing::run_script;
 use std::io::Write;
 use std::{env, fs, io};

@@ -1,4 +1,6 @@
 // Both ends together: a sender driven by calls given as data, and a receiver that hears what it writes.
+#![tactic(auto)]
+
 mod calls;
 mod link;
 mod promise;

@@ -1,5 +1,7 @@
 // The same list of calls over links of every kind of line code, with both checks: the answers, the line, and what the far end
 // reports of it.
+#![tactic(auto)]
+
 use calls::{Answer, Request};
 use checks::{Check, Fcs16, Fcs32};
 use codes::{LineCode, Mirrored, Pile, Scrambler, Straight};

@@ -1,4 +1,6 @@
 // The listing of a script: both ends run its calls, and each line gets a row.
+#![tactic(auto)]
+
 ghost use Rattle.std.specs.Prelude.{◌≡◌, IfOk};
 ghost use Rattle.listing.specs.Listing.{listing};
 

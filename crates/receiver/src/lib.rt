@@ -1,4 +1,6 @@
 // The receiving end.
+#![tactic(auto)]
+
 mod ear;
 mod judge;
 mod receiver;

@@ -1,4 +1,6 @@
 // Scripts of calls and the listing of a run, as text.
+#![tactic(auto)]
+
 mod kind;
 mod lines;
 mod parse;

@@ -1,4 +1,6 @@
 // The sending end of a link, for any line code and any frame check.
+#![tactic(auto)]
+
 mod answers;
 mod idle;
 mod open;

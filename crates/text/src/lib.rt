@@ -1,4 +1,6 @@
 // Octets and numbers as text.
+#![tactic(auto)]
+
 mod decimal;
 mod hex;
 

@@ -1,4 +1,6 @@
 // Views of delivered information: its fields as parts of it, each with its place.
+#![tactic(auto)]
+
 mod cut;
 mod ip;
 mod mac;

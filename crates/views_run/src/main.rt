@@ -1,5 +1,7 @@
 // Views at the ends of every range, and where two refusals apply. What is printed was worked out apart from the views;
 // the check octets of the MAC cases are those of another CRC-32.
+#![tactic(auto)]
+
 ghost use Rattle.std.specs.Prelude.{◌≤◌};
 
 use std::io;
