@@ -14,7 +14,7 @@ fn digits(heap: Global, number: usize) -> Result<String, AllocError>
 pub fn push_decimal(out: &mut Vec<u8>, number: usize) -> Result<(), AllocError>
     ensures { out.new.items ≡ (if is_ok result then out.old.items ++ decimal number else out.old.items) }
 {
-    let written = digits(out.allocator(), number)?;
+    let written = digits(*out.allocator(), number)?;
     out.extend_from_slice(written.as_bytes())
 }
 

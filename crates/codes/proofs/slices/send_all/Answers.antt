@@ -4,7 +4,7 @@ use Rattle.codes.proofs.Places.{untouched_at, untouched_more, runs_more, runs_al
 use Rattle.codes.proofs.slices.send_all.Goals as goal
 
 pub loop-octet-init : goal.loop-octet-init
-loop-octet-init g c = (refl, λ xs o. refl, λ k. (c.type-inv.octets k).fits)
+loop-octet-init g c = (refl, λ xs o. refl, λ k. (c.type_inv.octets k).fits)
 
 pub loop-octet-preserved : goal.loop-octet-preserved
 loop-octet-preserved g c =
@@ -13,9 +13,9 @@ loop-octet-preserved g c =
     let old = c.args.octets.now in
     let within : l.octet-index < length l.octets = omega arith in
     let fits : get_or l.octets l.octet-index 0 < 256 = rw (← (untouched_at old l.octets l.octet-index l.invariant.0)) (l.invariant.2 l.octet-index) in
-    let step : Steps (code l.line) (get_or l.octets l.octet-index 0) c.send-here.new.octet (code c.send-here.new.line) = search rules in (
-      untouched_more old l.octets l.octet-index c.send-here.new.octet l.invariant.0,
-      runs_more (code c.args.line.now) (code l.line) (code c.send-here.new.line) old l.octets l.octet-index c.send-here.new.octet c.loop-octet-test.true within l.invariant.0 fits l.invariant.1 step,
+    let step : Steps (code l.line) (get_or l.octets l.octet-index 0) c.send_here.new.octet (code c.send_here.new.line) = search rules in (
+      untouched_more old l.octets l.octet-index c.send_here.new.octet l.invariant.0,
+      runs_more (code c.args.line.now) (code l.line) (code c.send_here.new.line) old l.octets l.octet-index c.send_here.new.octet c.loop-octet-test.true within l.invariant.0 fits l.invariant.1 step,
       l.invariant.2,
     )
 

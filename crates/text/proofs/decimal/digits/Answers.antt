@@ -5,4 +5,4 @@ use Rattle.text.proofs.decimal.digits.Goals as goal
 
 pub returns : goal.returns
 returns c =
-    IfOk-weaker c.to-string.result _ _ (λ s e. e ∙ written_decimal c.args.number c.ranges.number.fits) c.to-string.ensures.ok
+    IfOk-weaker c.to_string.result _ _ (λ s e. e ∙ written_decimal c.args.number c.ranges.number.fits) c.to_string.ensures.ok

@@ -5,14 +5,14 @@ use Rattle.std.proofs.lemmas.Result.{IfOk-from_err}
 use Rattle.text.specs.Hex.{octet_digits, hex}
 use Rattle.text.proofs.hex.push_octets.Goals as goal
 
-pub returns-in-err-push-octet : goal.returns-in-err-push-octet
-returns-in-err-push-octet c =
+pub returns-in_err-push_octet : goal.returns-in_err-push_octet
+returns-in_err-push_octet c =
     let l = c.loop-octet in
     let old = vec_items c.args.out.now in
     let part = flat_map octet_digits (take l.octet-index c.args.octets.now) in
-    let same : vec_items c.push-octet.new.out ≡ old ++ part = c.in-err-push-octet.ensures ∙ l.invariant in
+    let same : vec_items c.push_octet.new.out ≡ old ++ part = c.in_err-push_octet.ensures ∙ l.invariant in
     record {
-      whole = IfOk-from_err c.from-residual.result _ c.from-residual.ensures.0;
+      whole = IfOk-from_err c.from_residual.result _ c.from_residual.ensures.0;
       kept = ap (take (vec_len c.args.out.now)) same ∙ take_at old part (vec_len c.args.out.now) (sym c.args.out.now.ok.0);
     }
 
@@ -22,7 +22,7 @@ loop-octet-preserved c =
     let xs = c.args.octets.now in
     let e = take_more xs l.octet-index 0 c.loop-octet-test.true in
     let j = flat_map_more octet_digits (vec_items c.args.out.now) (take l.octet-index xs) (get_or xs l.octet-index 0) in
-    let k = c.in-ok-push-octet.ensures in
+    let k = c.in_ok-push_octet.ensures in
     cc
 
 pub returns : goal.returns

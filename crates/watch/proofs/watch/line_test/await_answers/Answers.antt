@@ -3,11 +3,11 @@ use Rattle.watch.proofs.Tests.{goes_on, gives_up, ends}
 use Rattle.watch.proofs.watch.line_test.await_answers.Goals as goal
 use Rattle.watch.specs.Watch.{standing}
 
-pub returns-in-err-expect-answer : goal.returns-in-err-expect-answer
-returns-in-err-expect-answer c =
+pub returns-in_err-expect_answer : goal.returns-in_err-expect_answer
+returns-in_err-expect_answer c =
     let all = c.args.answers.now in
     let i = c.loop-answered.answered-index in
-    let b : get_or all i false ≡ false = sym c.in-err-expect-answer.ensures in
+    let b : get_or all i false ≡ false = sym c.in_err-expect_answer.ensures in
     let p = gives_up all i (standing c.loop-answered.test.watch.now) (standing c.args.test.now.watch.now) c.loop-answered.invariant.0 c.loop-answered-test.true b in
     record { answered = search rules; stands = c.tick.ensures.stands ∙ p.1; same = search rules }
 
