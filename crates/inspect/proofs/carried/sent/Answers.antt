@@ -5,6 +5,6 @@ use Rattle.inspect.proofs.carried.sent.Goals as goal
 -- the slice that was lent keeps its length
 pub returns : goal.returns
 returns g c =
-    let long : length c.send-all.new.octets ≡ c.in-ok-line.line.len = search rules in
-    let given = c.as-mut-slice.ensures.value ∙ c.in-ok-line.ensures.items in
-    take_at _ _ _ long ∙ c.send-all.ensures.sent ∙ ap (g.L.LineCode.onward c.args.sender) given
+    let long : length c.send_all.new.octets ≡ c.in_ok-line.line.len = search rules in
+    let given = c.as_mut_slice.ensures.value ∙ c.in_ok-line.ensures.items in
+    take_at _ _ _ long ∙ c.send_all.ensures.sent ∙ ap (g.L.LineCode.onward c.args.sender) given

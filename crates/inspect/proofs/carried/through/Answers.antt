@@ -6,14 +6,14 @@ use Rattle.inspect.proofs.carried.through.Goals as goal
 pub returns : goal.returns
 returns g c =
     let octets = c.args.octets.now in
-    let line = c.in-ok-line.ensures in
-    let heard = c.as-slice.ensures.value ∙ line in
+    let line = c.in_ok-line.ensures in
+    let heard = c.as_slice.ensures.value ∙ line in
     record {
       line = line;
       back =
           λ same.
-          c.in-ok-back.ensures
+          c.in_ok-back.ensures
           ∙ ap (g.L.LineCode.back c.args.receiver) heard
           ∙ ap (λ f. f (g.L.LineCode.onward c.args.sender octets)) same
-          ∙ g.met.L.LineCode.undoes c.args.sender octets (typed octets c.type-inv.octets);
+          ∙ g.met.L.LineCode.undoes c.args.sender octets (typed octets c.type_inv.octets);
     }

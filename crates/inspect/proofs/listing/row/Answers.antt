@@ -5,9 +5,9 @@ use Rattle.inspect.proofs.listing.row.Goals as goal
 pub returns : goal.returns
 returns c =
     row_is c.args.code c.args.octets.now _ _ _ _ _ _
-    (c.in-ok-out.ensures.items ∙ c.name.ensures)
-    c.in-ok-push-field.ensures
-    c.in-ok-push-checks.ensures
-    c.in-ok-push-carried.ensures
-    c.in-ok-carried.ensures.line
-    c.in-ok-carried.ensures.back
+    (c.in_ok-out.ensures.items ∙ c.name.ensures)
+    c.in_ok-push_field.ensures
+    c.in_ok-push_checks.ensures
+    c.in_ok-push_carried.ensures
+    c.in_ok-carried.ensures.line
+    c.in_ok-carried.ensures.back

@@ -4,4 +4,4 @@ use Rattle.frames.specs.Layout.{flag, stuff}
 use Rattle.sender.proofs.putting.closing_length.Goals as goal
 
 pub returns : goal.returns
-returns c = omega (arith, c.stuffed-length.ensures.count, length_push (stuff c.args.check_octets.now) flag)
+returns c = omega (arith, c.stuffed_length.ensures.count, length_push (stuff c.args.check_octets.now) flag)

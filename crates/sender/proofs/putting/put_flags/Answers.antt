@@ -9,11 +9,11 @@ loop-turn-init g c = put_none (g.L.LineCode.onward c.args.line.now) (g.met.L.Lin
 
 pub put-next-requires : goal.put-next-requires
 put-next-requires g c =
-    omega (arith, c.loop-turn.invariant.behind, length-replicate c.loop-turn.-turn flag, length-replicate c.args.count flag)
+    omega (arith, c.loop-turn.invariant.behind, length-replicate c.loop-turn._turn flag, length-replicate c.args.count flag)
 
 pub loop-turn-preserved : goal.loop-turn-preserved
 loop-turn-preserved g c =
-    let h : c.loop-turn.-turn < length c.args.stretch.now = omega (arith, length-replicate c.args.count flag) in
-    let next : c.loop-turn.next < length c.loop-turn.stretch = omega (arith, c.loop-turn.invariant.behind, length-replicate c.loop-turn.-turn flag) in
-    flags_more (g.L.LineCode.onward c.args.line.now) (g.L.LineCode.onward c.loop-turn.line) (g.L.LineCode.onward c.put-next.new.line) (g.met.L.LineCode.sends c.args.line.now) c.loop-turn.next c.put-next.result c.args.stretch.now c.loop-turn.stretch c.put-next.new.stretch c.loop-turn.-turn h c.loop-turn.invariant
+    let h : c.loop-turn._turn < length c.args.stretch.now = omega (arith, length-replicate c.args.count flag) in
+    let next : c.loop-turn.next < length c.loop-turn.stretch = omega (arith, c.loop-turn.invariant.behind, length-replicate c.loop-turn._turn flag) in
+    flags_more (g.L.LineCode.onward c.args.line.now) (g.L.LineCode.onward c.loop-turn.line) (g.L.LineCode.onward c.put-next.new.line) (g.met.L.LineCode.sends c.args.line.now) c.loop-turn.next c.put-next.result c.args.stretch.now c.loop-turn.stretch c.put-next.new.stretch c.loop-turn._turn h c.loop-turn.invariant
     (put_one (g.L.LineCode.onward c.loop-turn.line) (g.L.LineCode.onward c.put-next.new.line) (g.met.L.LineCode.sends c.put-next.new.line) flag c.loop-turn.next c.put-next.result c.loop-turn.stretch c.put-next.new.stretch next c.put-next.ensures)

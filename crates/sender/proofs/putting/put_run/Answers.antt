@@ -11,14 +11,14 @@ pub loop-octet-init : goal.loop-octet-init
 loop-octet-init g c =
     (put_none (g.L.LineCode.onward c.args.line.now) (g.met.L.LineCode.sends c.args.line.now) c.args.place c.args.stretch.now, tt)
 
-pub put-stuffed-next-requires : goal.put-stuffed-next-requires
-put-stuffed-next-requires g c =
+pub put_stuffed-next-requires : goal.put_stuffed-next-requires
+put_stuffed-next-requires g c =
     omega (arith, c.loop-octet.invariant.0.behind, stuff_room c.args.octets.now c.loop-octet.octet-index c.loop-octet-test.true)
 
 pub loop-octet-preserved : goal.loop-octet-preserved
 loop-octet-preserved g c =
     let x : get_or c.args.octets.now c.loop-octet.octet-index 0 < 256 = omega arith in (
-      run_more (g.L.LineCode.onward c.args.line.now) (g.L.LineCode.onward c.loop-octet.line) (g.L.LineCode.onward c.put-stuffed-next.new.line) (g.met.L.LineCode.sends c.args.line.now) c.loop-octet.next c.put-stuffed-next.result c.args.stretch.now c.loop-octet.stretch c.put-stuffed-next.new.stretch c.args.octets.now c.loop-octet.octet-index c.args.place c.loop-octet-test.true c.loop-octet.invariant.1 x c.requires c.loop-octet.invariant.0 c.put-stuffed-next.ensures,
+      run_more (g.L.LineCode.onward c.args.line.now) (g.L.LineCode.onward c.loop-octet.line) (g.L.LineCode.onward c.put_stuffed-next.new.line) (g.met.L.LineCode.sends c.args.line.now) c.loop-octet.next c.put_stuffed-next.result c.args.stretch.now c.loop-octet.stretch c.put_stuffed-next.new.stretch c.args.octets.now c.loop-octet.octet-index c.args.place c.loop-octet-test.true c.loop-octet.invariant.1 x c.requires c.loop-octet.invariant.0 c.put_stuffed-next.ensures,
       All-more (λ x. x < 256) c.args.octets.now c.loop-octet.octet-index 0 c.loop-octet-test.true c.loop-octet.invariant.1 x,
     )
 

@@ -4,8 +4,8 @@ use Rattle.sender.specs.Writing.{Put}
 use Rattle.sender.proofs.Puts.{put_one, stuffed_plain}
 use Rattle.sender.proofs.putting.put_stuffed.Goals as goal
 
-pub returns-in-default : goal.returns-in-default
-returns-in-default g c =
+pub returns-in_default : goal.returns-in_default
+returns-in_default g c =
     let f : c.args.octet ≢ flag = omega arith in
     let e : c.args.octet ≢ escape = omega arith in
     let h : c.args.place < length c.args.stretch.now = omega (arith, ap length (stuffed_plain c.args.octet f e)) in

@@ -6,7 +6,7 @@ use Rattle.sender.proofs.putting.stuffed_length.Goals as goal
 
 pub loop-octet-preserved : goal.loop-octet-preserved
 loop-octet-preserved c = (
-  omega (arith, c.stuffed-octet-length-count.ensures.count, stuff_more_length c.args.octets.now c.loop-octet.octet-index c.loop-octet-test.true),
+  omega (arith, c.stuffed_octet_length-count.ensures.count, stuff_more_length c.args.octets.now c.loop-octet.octet-index c.loop-octet-test.true),
   omega arith,
 )
 

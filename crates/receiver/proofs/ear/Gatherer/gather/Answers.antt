@@ -13,6 +13,6 @@ returns g c =
     let all : length (take self.count self.octets) ≡ self.count = length-take-le self.count self.octets (omega (arith, limit_most self.settings)) in
     let room : ltb (length (take self.count self.octets)) (limit (terms self.settings)) ≡ true = lt-ltb _ _ (omega arith) in
     record {
-      ear = rw room (record { standing = refl; gathered = take_more_set self.octets self.count c.args.octet inside; good_with = c.take-in.ensures.passes });
+      ear = rw room (record { standing = refl; gathered = take_more_set self.octets self.count c.args.octet inside; good_with = c.take_in.ensures.passes });
       settings = search rules;
     }

@@ -12,6 +12,6 @@ returns-else-gathered-eq0 g c =
     let buffer = c.args.delivery.now in
     let some : eqb (length (take self.count self.octets)) 0 ≡ false = ne_eqb (length (take self.count self.octets)) 0 (λ e. c.if-gathered-eq0.false (sym c.counted.ensures ∙ e)) in
     rw (c.in-Gathering.is, some) (record {
-      report = ap Some (c.judge.ensures.report ∙ ap₂ (λ b f. report_of (judgement σ (length buffer) b f)) c.is-good-good.ensures c.frame.ensures);
-      delivery = c.judge.ensures.delivery ∙ ap₂ (λ b f. delivered (Some (judgement σ (length buffer) b f)) buffer) c.is-good-good.ensures c.frame.ensures;
+      report = ap Some (c.judge.ensures.report ∙ ap₂ (λ b f. report_of (judgement σ (length buffer) b f)) c.is_good-good.ensures c.frame.ensures);
+      delivery = c.judge.ensures.delivery ∙ ap₂ (λ b f. delivered (Some (judgement σ (length buffer) b f)) buffer) c.is_good-good.ensures c.frame.ensures;
     })
