@@ -71,7 +71,7 @@ pub fn push_row(
 ) -> Result<(), AllocError>
     ensures { out.new.items ≡ (if is_ok result then out.old.items ++ report_row name answer line.now report else out.old.items) }
 {
-    let row = row_of(out.allocator(), name, answer, line, report)?;
+    let row = row_of(*out.allocator(), name, answer, line, report)?;
     out.extend_from_slice(&row)
 }
 

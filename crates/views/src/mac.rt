@@ -14,7 +14,7 @@ fn check_stands(information: &[u8]) -> bool
         return false;
     };
     let check = [*c0, *c1, *c2, *c3];
-    check_octets_of::<Fcs32>(covered).as_slice() == &check
+    check_octets_of::<Fcs32>(covered).as_slice() == check.as_slice()
 }
 
 pub(crate) fn mac(information: &[u8]) -> Result<MacFrame<'_>, Refusal>

@@ -5,4 +5,4 @@ use Rattle.script.proofs.parse.behind_head.Goals as goal
 
 pub returns : goal.returns
 returns c =
-    c.strip-head.ensures ∙ sym (cond-false _ _ _ (le-ltb longest_script (length c.args.script.now) (omega arith)))
+    c.strip_head.ensures ∙ sym (cond-false _ _ _ (le-ltb longest_script (length c.args.script.now) (omega arith)))

@@ -2,28 +2,28 @@ use Rattle.std.proofs.Common.{Some, ap, ◌∙◌, rules}
 use Rattle.script.proofs.Readings.{of_two, octet_at, four_digits, other_count}
 use Rattle.script.proofs.parse.parse_sapi.Goals as goal
 
-pub returns-in-default : goal.returns-in-default
-returns-in-default c = other_count c.args.value.now (λ e. search rules)
+pub returns-in_default : goal.returns-in_default
+returns-in_default c = other_count c.args.value.now (λ e. search rules)
 
-pub returns-in-default·2 : goal.returns-in-default·2
-returns-in-default·2 c = other_count c.args.value.now (λ e. search rules)
+pub returns-in_default·2 : goal.returns-in_default·2
+returns-in_default·2 c = other_count c.args.value.now (λ e. search rules)
 
-pub returns-in-err-high : goal.returns-in-err-high
-returns-in-err-high c =
-    c.from-residual.ensures
-    ∙ ap (λ h. of_two h (octet_at 2 c.args.value.now)) c.in-err-high.ensures
+pub returns-in_err-high : goal.returns-in_err-high
+returns-in_err-high c =
+    c.from_residual.ensures
+    ∙ ap (λ h. of_two h (octet_at 2 c.args.value.now)) c.in_err-high.ensures
     ∙ four_digits c.args.value.now (search rules)
 
-pub returns-in-err-low : goal.returns-in-err-low
-returns-in-err-low c =
-    c.from-residual-in-err-low.ensures
-    ∙ ap (of_two (Some c.in-ok-high.high)) c.in-err-low.ensures
-    ∙ ap (λ h. of_two h (octet_at 2 c.args.value.now)) c.in-ok-high.ensures
+pub returns-in_err-low : goal.returns-in_err-low
+returns-in_err-low c =
+    c.from_residual-in_err-low.ensures
+    ∙ ap (of_two (Some c.in_ok-high.high)) c.in_err-low.ensures
+    ∙ ap (λ h. of_two h (octet_at 2 c.args.value.now)) c.in_ok-high.ensures
     ∙ four_digits c.args.value.now (search rules)
 
 pub returns : goal.returns
 returns c =
-    ap Some c.from-be-bytes.ensures
-    ∙ ap (of_two (Some c.in-ok-high.high)) c.in-ok-low.ensures
-    ∙ ap (λ h. of_two h (octet_at 2 c.args.value.now)) c.in-ok-high.ensures
+    ap Some c.from_be_bytes.ensures
+    ∙ ap (of_two (Some c.in_ok-high.high)) c.in_ok-low.ensures
+    ∙ ap (λ h. of_two h (octet_at 2 c.args.value.now)) c.in_ok-high.ensures
     ∙ four_digits c.args.value.now (search rules)

@@ -3,4 +3,4 @@ use Rattle.script.proofs.Stripped.{stripped}
 use Rattle.script.proofs.parse.strip_head.Goals as goal
 
 pub returns : goal.returns
-returns c = stripped c.args.script.now head_line c.strip-prefix.result c.strip-prefix.ensures.cases
+returns c = stripped c.args.script.now head_line c.strip_prefix.result c.strip_prefix.ensures.cases

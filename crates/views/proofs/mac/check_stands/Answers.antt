@@ -9,7 +9,7 @@ pub returns : goal.returns
 returns c =
     let info : List ℕ = c.args.information.now in
     let end : ℕ = length info - 4 in
-    let o : c.as-slice.result.now ≡ owed fcs32 (take end info) = c.as-slice.ensures ∙ c.check-octets-of.ensures in
-    let d : Decides c.eq.result (c.as-slice.result.now ≡ four info) = slice_eq-Decides Decides-eqb c.as-slice.result.now (four info) c.eq.result c.eq.ensures in
+    let o : c.as_slice.result.now ≡ owed fcs32 (take end info) = c.as_slice.ensures ∙ c.check_octets_of.ensures in
+    let d : Decides c.eq.result (c.as_slice.result.now ≡ four info) = slice_eq-Decides Decides-eqb c.as_slice.result.now (four info) c.eq.result c.eq.ensures in
     let d' : Decides c.eq.result (owed fcs32 (take end info) ≡ drop end info) = rw (o, last_four info c.requires) at d in
     same_from_decides c.eq.result _ d' (bytes_eq-Decides (owed fcs32 (take end info)) (drop end info))

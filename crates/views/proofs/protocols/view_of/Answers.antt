@@ -9,7 +9,7 @@ pub returns : goal.returns
 returns c =
     let info = c.args.information.now in
     record {
-      viewed = c.view-by-sapi.ensures;
-      tiled = subst (Tiled info) (sym c.view-by-sapi.ensures) (viewed_tiled c.args.sapi info);
-      sums = sum_law info (All-from_get_or (λ x. x < 256) info 0 (λ i _. omega (arith, c.type-inv.information i)));
+      viewed = c.view_by_sapi.ensures;
+      tiled = subst (Tiled info) (sym c.view_by_sapi.ensures) (viewed_tiled c.args.sapi info);
+      sums = sum_law info (All-from_get_or (λ x. x < 256) info 0 (λ i _. omega (arith, c.type_inv.information i)));
     }
