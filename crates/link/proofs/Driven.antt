@@ -18,8 +18,8 @@ use Rattle.sender.specs.declared.answers.Ended.{Ended}
 use Rattle.sender.specs.declared.answers.Ended.TheVariants as Ending-of
 use Rattle.sender.specs.Outcomes.{Taken, opening_refusal, adding_refusal, Opening, Filling, Adding, Adapting, Ending}
 use Rattle.link.specs.declared.calls.Answer.TheVariants as answer
-use Rattle.link.specs.declared.sender.Sender.{Sender}
-use Rattle.link.specs.declared.sender.Sender.TheVariants as sender
+use Rattle.link.specs.declared.calling.Sender.{Sender}
+use Rattle.link.specs.declared.calling.Sender.TheVariants as sender
 use Rattle.link.specs.Answering.{answered_as, ended_as}
 use Rattle.link.specs.Driving.{Stands, Driven, IfAllowed, CallsOn}
 

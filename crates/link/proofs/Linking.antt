@@ -20,9 +20,9 @@ use Rattle.receiver.specs.declared.receiver.Receiver.{Receiver}
 use Rattle.receiver.specs.Models.{ear, AlikeEars, Fed, HasHeard}
 use Rattle.frames.specs.declared.settings.Settings.{Settings}
 use Rattle.sender.specs.declared.idle.Idle.{Idle}
-use Rattle.link.specs.declared.sender.Sender.TheVariants as sender
+use Rattle.link.specs.declared.calling.Sender.TheVariants as sender
 use Rattle.link.specs.declared.link.Link.{Link}
-use Rattle.link.specs.declared.sender.Sender.{Sender}
+use Rattle.link.specs.declared.calling.Sender.{Sender}
 use Rattle.link.specs.declared.calls.Answer.{Answer}
 use Rattle.link.specs.declared.calls.Answer.TheVariants as answer
 use Rattle.frames.specs.declared.answers.Refusal.{Refusal}

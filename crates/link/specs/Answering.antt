@@ -5,8 +5,8 @@ use Rattle.sender.specs.declared.answers.Ended.{Ended}
 use Rattle.sender.specs.declared.answers.Ended.TheVariants as ended
 use Rattle.link.specs.declared.calls.Answer.{Answer}
 use Rattle.link.specs.declared.calls.Answer.TheVariants as answer
-use Rattle.link.specs.declared.sender.Sender.TheVariants as sender
-use Rattle.link.specs.declared.sender.Called.{Called}
+use Rattle.link.specs.declared.calling.Sender.TheVariants as sender
+use Rattle.link.specs.declared.calling.Called.{Called}
 
 abbrev pub answered_as : Result ℕ Refusal → Answer
 answered_as (Ok n) = answer.Written n

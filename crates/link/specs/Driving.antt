@@ -10,8 +10,8 @@ use Rattle.link.specs.declared.calls.Request.{Request}
 use Rattle.link.specs.declared.calls.Request.TheVariants as request
 use Rattle.link.specs.declared.calls.Answer.{Answer}
 use Rattle.link.specs.declared.calls.Answer.TheVariants as answer
-use Rattle.link.specs.declared.sender.Sender.{Sender}
-use Rattle.link.specs.declared.sender.Sender.TheVariants as sender
+use Rattle.link.specs.declared.calling.Sender.{Sender}
+use Rattle.link.specs.declared.calling.Sender.TheVariants as sender
 
 -- the call that a request stands for
 abbrev pub call_of_request : Request → Call

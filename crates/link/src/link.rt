@@ -1,5 +1,5 @@
+use crate::calling::Sender;
 use crate::calls::Answer;
-use crate::sender::Sender;
 use frames::{Refusal, Report};
 use receiver::Receiver;
 

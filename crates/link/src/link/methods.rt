@@ -6,9 +6,9 @@ ghost use Rattle.frames.specs.Calls.{Typed};
 ghost use Rattle.link.specs.Linked.{Joining, Exchanges, HearsFront};
 
 use super::{Joined, Link, Stepped};
+use crate::calling::{Called, Sender};
 use crate::calls::{Answer, Request};
 use crate::promise::{cutting_is_free, hearing_ends, reports_are_said, sent_is_reported};
-use crate::sender::{Called, Sender};
 use checks::Check;
 use codes::LineCode;
 use frames::{Report, Settings};

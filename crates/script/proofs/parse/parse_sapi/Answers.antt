@@ -5,8 +5,8 @@ use Rattle.script.proofs.parse.parse_sapi.Goals as goal
 pub returns-in_default : goal.returns-in_default
 returns-in_default c = other_count c.args.value.now (λ e. search rules)
 
-pub returns-in_default·2 : goal.returns-in_default·2
-returns-in_default·2 c = other_count c.args.value.now (λ e. search rules)
+pub returns-in_default-2 : goal.returns-in_default-2
+returns-in_default-2 c = other_count c.args.value.now (λ e. search rules)
 
 pub returns-in_err-high : goal.returns-in_err-high
 returns-in_err-high c =

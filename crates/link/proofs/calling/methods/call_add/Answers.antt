@@ -2,7 +2,7 @@ use Rattle.std.proofs.Common.{◌<◌, arith}
 use Rattle.std.proofs.ByRecursion.{All-from_get_or}
 use Rattle.octets.specs.Octets.{Octets}
 use Rattle.link.proofs.Driven.{adds}
-use Rattle.link.proofs.sender.methods.call_add.Goals as goal
+use Rattle.link.proofs.calling.methods.call_add.Goals as goal
 
 pub returns : goal.returns
 returns g c =
