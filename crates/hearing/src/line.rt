@@ -66,7 +66,7 @@ fn hear_some<L: LineCode, K: Check + Drop>(
     let (used, report) = feed_from(receiver, line, place, cut, delivery);
     let next = place + used;
     if let Some(report) = report {
-        let outcome = outcome(reports.allocator(), report, delivery)?;
+        let outcome = outcome(*reports.allocator(), report, delivery)?;
         let place = next - 1;
         reports.push(Heard { place, outcome })?;
     }

@@ -24,7 +24,7 @@ returns g c =
     let report = c.feed.result.1 in
     let same : c.front.result.now ≡ stretch = c.front.ensures ∙ ap (take c.args.cut) (take_rest line c.args.place) in
     let fed : Fed back passes good r stretch buffer r' buffer' n report = subst (λ x. Fed back passes good r x buffer r' buffer' n report) same c.feed.ensures in
-    let o : Octets stretch = All-take (λ x. x < 256) c.args.cut rest (All-drop (λ x. x < 256) c.args.place line (typed line c.type-inv.line)) in
+    let o : Octets stretch = All-take (λ x. x < 256) c.args.cut rest (All-drop (λ x. x < 256) c.args.place line (typed line c.type_inv.line)) in
     let long = length-take c.args.cut rest in
     let left = length-drop c.args.place line in
     record {

@@ -13,7 +13,7 @@ loop-place-init g c =
     let line = c.args.line.now in
     let r = c.args.receiver.now in (
       subst (Gone back passes good line r 0 r) (sym (ap (map placed_of) c.new-reports.ensures.items))
-          (gone_none back passes good g.met.L.LineCode.receives line (typed line c.type-inv.line) r),
+          (gone_none back passes good g.met.L.LineCode.receives line (typed line c.type_inv.line) r),
       refl,
     )
 
@@ -22,34 +22,34 @@ loop-place-preserved g c =
     let line = c.args.line.now in
     let r₀ = c.args.receiver.now in
     let enough : r₀.ear.settings.longest ≤ length c.loop-place.delivery = omega (arith, r₀.ear.settings.most, c.loop-place.invariant.1) in (
-      gone_more g.L.LineCode.back g.K.Check.passes g.K.Check.good g.met.L.LineCode.receives line (typed line c.type-inv.line) r₀
-          c.loop-place.place c.next-cut-cut.result.0 c.loop-place.receiver c.loop-place.delivery (map placed_of (vec_items c.loop-place.reports))
-          c.hear-some.new.receiver c.hear-some.new.delivery (map placed_of (vec_items c.hear-some.new.reports)) c.in-ok-place.place
-          enough c.loop-place.invariant.0 c.in-ok-place.ensures.step.0,
-      c.hear-some.auto.delivery ∙ c.loop-place.invariant.1,
+      gone_more g.L.LineCode.back g.K.Check.passes g.K.Check.good g.met.L.LineCode.receives line (typed line c.type_inv.line) r₀
+          c.loop-place.place c.next_cut-cut.result.0 c.loop-place.receiver c.loop-place.delivery (map placed_of (vec_items c.loop-place.reports))
+          c.hear_some.new.receiver c.hear_some.new.delivery (map placed_of (vec_items c.hear_some.new.reports)) c.in_ok-place.place
+          enough c.loop-place.invariant.0 c.in_ok-place.ensures.step.0,
+      c.hear_some.auto.delivery ∙ c.loop-place.invariant.1,
     )
 
 pub returns : goal.returns
 returns g c =
     let line = c.args.line.now in
     let reports = map placed_of (vec_items c.loop-place.reports) in
-    let all = gone_all g.L.LineCode.back g.K.Check.passes g.K.Check.good g.met.L.LineCode.receives line (typed line c.type-inv.line) c.args.receiver.now
+    let all = gone_all g.L.LineCode.back g.K.Check.passes g.K.Check.good g.met.L.LineCode.receives line (typed line c.type_inv.line) c.args.receiver.now
     c.loop-place.place c.loop-place.receiver reports c.loop-place-test.false c.loop-place.invariant.0 in
     record {
       reports = all.0;
-      late = agrees_when_late g.L.LineCode.back g.K.Check.passes g.K.Check.good g.met.L.LineCode.receives c.args.receiver.now line (typed line c.type-inv.line) reports all.0;
+      late = agrees_when_late g.L.LineCode.back g.K.Check.passes g.K.Check.good g.met.L.LineCode.receives c.args.receiver.now line (typed line c.type_inv.line) reports all.0;
       leaves = all.1;
       begun = (c.loop-place.place, c.loop-place.invariant.0.leaves);
     }
 
-pub returns-in-err-place : goal.returns-in-err-place
-returns-in-err-place g c =
+pub returns-in_err-place : goal.returns-in_err-place
+returns-in_err-place g c =
     let line = c.args.line.now in
-    let heard = c.hear-some.ensures.leaves in
+    let heard = c.hear_some.ensures.leaves in
     record {
       reports = search rules;
       late = search rules;
       leaves = search rules;
-      begun = gone_part g.L.LineCode.back g.K.Check.passes g.K.Check.good g.met.L.LineCode.receives line (typed line c.type-inv.line) c.args.receiver.now
-          c.loop-place.place c.next-cut-cut.result.0 heard.0 c.loop-place.receiver c.hear-some.new.receiver (map placed_of (vec_items c.loop-place.reports)) c.loop-place.invariant.0 heard.1;
+      begun = gone_part g.L.LineCode.back g.K.Check.passes g.K.Check.good g.met.L.LineCode.receives line (typed line c.type_inv.line) c.args.receiver.now
+          c.loop-place.place c.next_cut-cut.result.0 heard.0 c.loop-place.receiver c.hear_some.new.receiver (map placed_of (vec_items c.loop-place.reports)) c.loop-place.invariant.0 heard.1;
     }

@@ -7,6 +7,6 @@ use Rattle.listing.proofs.rows.list_line.Goals as goal
 
 pub returns-in-Some : goal.returns-in-Some
 returns-in-Some g c =
-    let same : Some (request_call c.in-Some.request) ≡ line_call (line_of c.args.line) = ap (option_map request_call) (sym c.in-Some.is) ∙ c.in-ok-request.ensures in
-    subst (λ k. IfOk c.list-call.result (λ after. Lists g.L.LineCode.onward g.D.LineCode.back g.K.Check.owes g.K.Check.passes g.K.Check.owed g.K.Check.good g.K.Check.width k (length c.args.stretch.now) (length c.args.delivery.now) c.args.link (vec_items c.args.out.now) after (vec_items c.list-call.new.out)))
-    same c.list-call.ensures
+    let same : Some (request_call c.in-Some.request) ≡ line_call (line_of c.args.line) = ap (option_map request_call) (sym c.in-Some.is) ∙ c.in_ok-request.ensures in
+    subst (λ k. IfOk c.list_call.result (λ after. Lists g.L.LineCode.onward g.D.LineCode.back g.K.Check.owes g.K.Check.passes g.K.Check.owed g.K.Check.good g.K.Check.width k (length c.args.stretch.now) (length c.args.delivery.now) c.args.link (vec_items c.args.out.now) after (vec_items c.list_call.new.out)))
+    same c.list_call.ensures
