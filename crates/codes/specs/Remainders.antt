@@ -1,12 +1,12 @@
 -- Rules and their remainders.
-use Rattle.std.specs.Prelude.{◌≡◌, ℕ, ◌+◌, ◌<◌, ◌≤◌, List, [], ◌∷◌, ◌++◌, length, take, drop, refl}
+use Rattle.std.specs.Prelude.{◌≡◌, ℕ, ◌+◌, ◌<◌, ◌≤◌, List, [], ◌++◌, length, take, drop}
 use Rattle.std.proofs.Common.{append_assoc, ⊎_elim, sym, ap, ◌∙◌, arith, length-drop, length-append}
 use Rattle.std.proofs.lemmas.List.{take-append-drop, take_all, drop_all, drop-drop, drop-take, length-take-le, nil_from_length}
 use Rattle.std.proofs.lemmas.Bool.{cases_lt}
-use Rattle.std.proofs.ByRecursion.{All-append, All-take, All-drop}
+use Rattle.std.proofs.ByRecursion.{All-take, All-drop}
 use Rattle.octets.specs.Octets.{Octets}
 use Rattle.octets.proofs.Joined.{octets_append}
-use Rattle.codes.specs.Rules.{Rule, after, Alike}
+use Rattle.codes.specs.Rules.{Rule, after}
 
 -- the remainder's remainder
 pub after_after : (f : List ℕ → List ℕ) (xs ys zs : List ℕ) → after (after f xs) ys zs ≡ after f (xs ++ ys) zs

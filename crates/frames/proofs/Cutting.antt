@@ -1,5 +1,5 @@
 -- Hearing by any feeds comes to hearing the octets one by one.
-use Rattle.std.proofs.Common.{◌≡◌, ℕ, suc, ◌+◌, ◌-◌, ◌<◌, ◌≤◌, min, Bool, List, [], ◌∷◌, ◌++◌, length, take, drop, sym, refl, ap, ◌∙◌, ap₂, arith, length-take}
+use Rattle.std.proofs.Common.{◌≡◌, ℕ, ◌+◌, ◌-◌, ◌<◌, ◌≤◌, Bool, List, [], ◌∷◌, ◌++◌, length, take, drop, sym, refl, ap, ◌∙◌, ap₂, arith, length-take}
 use Rattle.std.proofs.lemmas.List.{take-append-drop, length-take-le, take-take}
 use Rattle.std.proofs.ByRecursion.{All-take, All-drop}
 use Rattle.octets.specs.Octets.{Octets}
@@ -7,8 +7,8 @@ use Rattle.codes.specs.Rules.{Rule, after, Alike}
 use Rattle.octets.proofs.Joined.{octets_append}
 use Rattle.codes.specs.Remainders.{answer_append, answer_nil, answer_take, after_rule, after_after}
 use Rattle.frames.specs.Terms.{Terms}
-use Rattle.frames.specs.Receiving.{Ear, hunting, used, reported, ear_after}
-use Rattle.frames.specs.Hearing.{Placed, placed, reports_from, Within, Feed, Roomy, Receiver, Hearing, hear, heard, feed_used, feed_reported, Equal}
+use Rattle.frames.specs.Receiving.{hunting, ear_after}
+use Rattle.frames.specs.Hearing.{placed, reports_from, Within, Feed, Roomy, Receiver, Hearing, hear, heard, feed_used, feed_reported}
 use Rattle.frames.specs.Promise.{CuttingIsFree}
 use Rattle.frames.proofs.Reached.{reached_same}
 use Rattle.frames.proofs.Feeds.{ear_append, reports_append, within_after, used_le, one_feed}

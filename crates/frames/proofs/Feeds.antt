@@ -1,9 +1,9 @@
 -- One feed after another: whatever the stretches are, the reports are those of the octets.
-use Rattle.std.proofs.Common.{◌≡◌, ℕ, suc, ◌+◌, ◌-◌, ◌<◌, ◌≤◌, min, Bool, List, [], ◌∷◌, ◌++◌, length, take, drop, Some, None, Option, sym, refl, ap, ◌∙◌, append_assoc, arith}
+use Rattle.std.proofs.Common.{◌≡◌, ℕ, suc, ◌+◌, ◌-◌, ◌<◌, ◌≤◌, Bool, List, [], ◌∷◌, ◌++◌, length, take, Some, None, Option, sym, refl, append_assoc, arith}
 use Rattle.frames.specs.Terms.{Terms}
 use Rattle.frames.specs.Calls.{Entry}
 use Rattle.frames.specs.Receiving.{Ear, moved, raised, used, reported, ear_after}
-use Rattle.frames.specs.Hearing.{Placed, placed, reports_from, Within}
+use Rattle.frames.specs.Hearing.{placed, reports_from, Within}
 use Rattle.frames.proofs.Rooms.{within_moved, raised_room}
 
 module _ (σ : Terms) (good : List ℕ → Bool) where

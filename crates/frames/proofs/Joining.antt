@@ -1,17 +1,17 @@
 -- A late joiner: two rules that agree from some octet on, and the first flag behind it.
-use Rattle.std.proofs.Common.{◌≡◌, ℕ, suc, ◌+◌, ◌-◌, ◌<◌, ◌≤◌, Bool, true, false, ltb, List, [], ◌∷◌, ◌++◌, length, get_or, take, drop, Some, None, filter, Option, sym, refl, ap, ◌∙◌, arith, length-drop}
+use Rattle.std.proofs.Common.{◌≡◌, ℕ, suc, ◌+◌, ◌-◌, ◌<◌, ◌≤◌, Bool, ltb, List, [], ◌∷◌, ◌++◌, length, get_or, take, drop, Some, None, Option, sym, refl, ap, ◌∙◌, arith, length-drop}
 use Rattle.std.proofs.lemmas.List.{take-append-drop, length-take-le, take_more, get_or-drop, drop-drop}
 use Rattle.std.proofs.lemmas.List.Elements.{filter-append}
 use Rattle.std.proofs.ByRecursion.{All-take, All-drop}
 use Rattle.std.proofs.lemmas.Bool.{lt-ltb, le-ltb}
 use Rattle.octets.specs.Octets.{Octets}
 use Rattle.codes.specs.Rules.{Rule, after, Settles}
-use Rattle.codes.specs.Remainders.{answer_append, answer_drop}
+use Rattle.codes.specs.Remainders.{answer_drop}
 use Rattle.frames.specs.Terms.{Terms}
 use Rattle.frames.specs.Layout.{flag}
 use Rattle.frames.specs.Calls.{Entry}
 use Rattle.frames.specs.Receiving.{Ear, begun, moved, raised, ear_after}
-use Rattle.frames.specs.Hearing.{Placed, placed, reports_from, Within, Feed, Roomy, behind, hear}
+use Rattle.frames.specs.Hearing.{placed, reports_from, behind}
 use Rattle.frames.specs.Promise.{JoinerAgrees}
 use Rattle.frames.proofs.Feeds.{ear_append, reports_append}
 use Rattle.frames.proofs.Cutting.{hears_all}

@@ -1,11 +1,9 @@
 -- All that a sender writes before line coding are octets.
-use Rattle.std.proofs.Common.{◌≡◌, ℕ, zero, suc, ◌-◌, ◌/◌, ◌%◌, ◌<◌, Bool, cond, eqb, List, [], ◌∷◌, ◌++◌, replicate, Some, None, Option, refl, subst, arith}
-use Rattle.std.proofs.ByRecursion.{All-append}
+use Rattle.std.proofs.Common.{ℕ, zero, suc, ◌<◌, eqb, List, [], ◌∷◌, replicate, Some, None, Option, arith}
 use Rattle.std.proofs.lemmas.Bool.{cond_both}
 use Rattle.std.specs.List.{AllByRecursion as All}
 use Rattle.octets.specs.Octets.{Octets}
 use Rattle.octets.proofs.Joined.{octets_append}
-use Rattle.checks.specs.Law.{Owes}
 use Rattle.frames.specs.declared.answers.Refusal.{Refusal}
 use Rattle.frames.specs.Terms.{Terms}
 use Rattle.frames.specs.Layout.{flag, escape, header, stuffed, stuff, adaptations, complemented}

@@ -1,15 +1,14 @@
 -- How a receiver gathers what a piece of line reads as.
-use Rattle.std.proofs.Common.{◌≡◌, ℕ, zero, suc, ◌+◌, ◌<◌, ◌≤◌, Bool, true, false, cond, eqb, ltb, ◌≢◌, ◌⊎◌, List, [], ◌∷◌, ◌++◌, length, sym, refl, ap, ◌∙◌, subst, ⊎_elim, append_assoc, arith, length-append}
+use Rattle.std.proofs.Common.{◌≡◌, ℕ, zero, suc, ◌+◌, ◌<◌, ◌≤◌, Bool, true, false, eqb, List, [], ◌∷◌, ◌++◌, length, refl, ◌∙◌, ⊎_elim, append_assoc, arith, length-append}
 use Rattle.std.proofs.lemmas.List.{append-nil}
 use Rattle.std.proofs.lemmas.Bool.{lt-ltb, ne_eqb, eqb-true, eqb-false, cases_Bool}
-use Rattle.std.specs.List.{flat_map}
-use Rattle.frames.specs.declared.standing.Standing.TheVariants.{Hunting, Gathering, AfterEscape, Skipping}
+use Rattle.frames.specs.declared.standing.Standing.TheVariants.{AfterEscape}
 use Rattle.frames.specs.Terms.{Terms, limit}
 use Rattle.frames.specs.Layout.{flag, escape, stuffed, stuff, adaptations}
-use Rattle.frames.specs.Receiving.{Ear, stand, gather, on_octet, moved, raised, ear_after}
+use Rattle.frames.specs.Receiving.{Ear, stand, gather, on_octet, ear_after}
 use Rattle.frames.specs.Pieces.{NoFlag, Reads, empty, plain, an_escape, a_flag, adapted}
 use Rattle.frames.specs.Following.{holding}
-use Rattle.frames.specs.Hearing.{Placed, placed, reports_from}
+use Rattle.frames.specs.Hearing.{reports_from}
 
 pub reads_no_flag : {u g : List ℕ} → Reads u g → NoFlag u
 reads_no_flag empty = tt

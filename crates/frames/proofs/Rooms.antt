@@ -1,14 +1,12 @@
 -- A receiver never gathers more than a good frame has, so a delivery buffer of `longest` octets always has room.
-use Rattle.std.proofs.Common.{◌≡◌, ℕ, ◌+◌, ◌-◌, ◌<◌, ◌≤◌, min, Bool, true, false, cond, eqb, ltb, List, [], ◌∷◌, ◌++◌, length, take, drop, Some, None, Option, sym, refl, ap, ◌∙◌, arith, length-drop, length-take}
+use Rattle.std.proofs.Common.{◌≡◌, ℕ, ◌≤◌, Bool, false, eqb, ltb, List, [], length, refl, arith, length-drop, length-take}
 use Rattle.std.proofs.lemmas.List.{length_push}
 use Rattle.std.proofs.lemmas.Bool.{ltb-true, le-ltb, cond_both}
-use Rattle.frames.specs.declared.answers.Fault.TheVariants as fault
 use Rattle.frames.specs.declared.standing.Standing.{Standing}
 use Rattle.frames.specs.declared.standing.Standing.TheVariants.{Hunting, Gathering, AfterEscape, Skipping}
-use Rattle.frames.specs.Terms.{Terms, limit, header_length, serves}
+use Rattle.frames.specs.Terms.{Terms, limit}
 use Rattle.frames.specs.Layout.{flag, escape}
-use Rattle.frames.specs.Calls.{Entry, handed_over, faulty}
-use Rattle.frames.specs.Receiving.{Ear, begun, stand, gather, after_escape, Reading, stands_for, adaptation, nothing_known, read_escape, on_octet, moved, verdict, raised, judgement, information_of, sapi_of}
+use Rattle.frames.specs.Receiving.{Ear, gather, after_escape, Reading, stands_for, adaptation, nothing_known, read_escape, on_octet, moved, verdict, raised, judgement, information_of}
 use Rattle.frames.specs.Hearing.{Within}
 
 module _ (σ : Terms) where

@@ -1,23 +1,21 @@
 -- What was sent is what is reported: a receiver follows a sender call by call.
-use Rattle.std.proofs.Common.{◌≡◌, ℕ, zero, suc, ◌+◌, ◌-◌, ◌*◌, ◌/◌, ◌%◌, ◌<◌, ◌≤◌, Bool, true, false, cond, eqb, ltb, ◌≢◌, ◌⊎◌, ◌↔◌, List, [], ◌∷◌, ◌++◌, map, length, take, drop, replicate, Some, None, Option, sym, refl, ap, ◌∙◌, subst, ap₂, inl, inr, ⊎_elim, append_assoc, arith, length-append}
+use Rattle.std.proofs.Common.{◌≡◌, ℕ, zero, suc, ◌+◌, ◌-◌, ◌*◌, ◌/◌, ◌%◌, ◌<◌, ◌≤◌, Bool, true, false, cond, eqb, ltb, List, [], ◌∷◌, ◌++◌, length, take, replicate, Some, None, Option, sym, refl, ap, ◌∙◌, subst, ap₂, inl, inr, ⊎_elim, arith, length-append}
 use lib.ListN.{length-map}
 use Rattle.std.proofs.lemmas.List.{append-nil, take_at, map-append}
-use Rattle.std.proofs.ByRecursion.{All-append, All-map, All-weaker}
-use Rattle.std.proofs.lemmas.Bool.{le-ltb, ltb-false, ne_eqb, cases_Bool, true≢false, both_ways}
+use Rattle.std.proofs.ByRecursion.{All-append}
+use Rattle.std.proofs.lemmas.Bool.{le-ltb, ltb-false, ne_eqb, cases_Bool, true≢false}
 use Rattle.octets.specs.Octets.{Octets}
-use Rattle.codes.specs.Rules.{Rule, Alike, Undoes}
+use Rattle.codes.specs.Rules.{Rule, Undoes}
 use Rattle.checks.specs.Law.{Width, Owes, Tells}
 use Rattle.std.specs.List.{AllByRecursion as All}
 use Rattle.frames.specs.declared.answers.Fault.TheVariants as fault
 use Rattle.frames.specs.declared.answers.Refusal.{Refusal}
-use Rattle.frames.specs.declared.answers.Refusal.TheVariants as refusal
-use Rattle.frames.specs.declared.standing.Standing.TheVariants.{Hunting, Gathering, AfterEscape, Skipping}
-use Rattle.frames.specs.Terms.{Terms, Valid, serves, limit, header_length}
-use Rattle.frames.specs.Layout.{flag, escape, header, stuff, adaptations, complemented, closing_octets}
-use Rattle.frames.specs.Calls.{Call, opening, adding, adapting, filling, closing, aborting, spoiling, Frame, idle, opened, allows, covered, octets, next, refused, stretch_refusal, Entry, handed_over, faulty, entered, Lent, if_taken, frame_after, written, noted, Permitted, line, ledger, Typed}
-use Rattle.frames.specs.Receiving.{Ear, begun, hunting, stand, moved, raised, ear_after, judgement, sapi_of, information_of}
+use Rattle.frames.specs.Terms.{Terms, serves, limit}
+use Rattle.frames.specs.Layout.{flag, header, stuff, complemented, closing_octets}
+use Rattle.frames.specs.Calls.{Call, opening, adding, adapting, filling, closing, aborting, spoiling, Frame, idle, opened, allows, octets, next, refused, handed_over, faulty, entered, Lent, if_taken, frame_after, written, noted, Permitted, line, ledger, Typed}
+use Rattle.frames.specs.Receiving.{Ear, begun, hunting, ear_after, judgement}
 use Rattle.frames.specs.Pieces.{Reads}
-use Rattle.frames.specs.Hearing.{Placed, placed, reports_from, entries}
+use Rattle.frames.specs.Hearing.{reports_from, entries}
 use Rattle.frames.specs.Following.{holding, InFrame, Follows}
 use Rattle.frames.specs.Promise.{SentIsReported}
 use Rattle.frames.proofs.Lines.{covered_octets, complemented_octets, line_octets}

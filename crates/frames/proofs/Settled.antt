@@ -1,8 +1,8 @@
 -- What every value of the settings keeps.
-use Rattle.std.proofs.Common.{◌≡◌, ℕ, ◌+◌, ◌≤◌, Bool, true, false, ◌||◌, eqb, ◌⊎◌, refl, inl, inr, ⊎_elim, arith}
+use Rattle.std.proofs.Common.{◌≡◌, ℕ, ◌≤◌, Bool, true, false, ◌||◌, eqb, ◌⊎◌, refl, inl, inr, ⊎_elim, arith}
 use Rattle.std.proofs.lemmas.Bool.{eqb-true, or_cases}
 use Rattle.frames.specs.declared.settings.Settings.{Settings}
-use Rattle.frames.specs.Terms.{Terms, Valid, services, serves, mac_sapi, limit}
+use Rattle.frames.specs.Terms.{Valid, services, serves, mac_sapi, limit}
 use Rattle.frames.specs.Of.{terms}
 
 pub two_or_four : (w : ℕ) → (eqb w 2 || eqb w 4) ≡ true → (w ≡ 2) ⊎ (w ≡ 4)

@@ -1,6 +1,5 @@
 -- Hearing: any feeds, one after the other, of the octets of a line.
-use Rattle.std.specs.Prelude.{◌≡◌, ℕ, zero, suc, ◌+◌, ◌-◌, ◌≤◌, Bool, List, [], ◌∷◌, ◌++◌, map, length, take, drop, Some, None, filter, Option, nat_lt}
-use Rattle.octets.specs.Octets.{Octets}
+use Rattle.std.specs.Prelude.{◌≡◌, ℕ, suc, ◌+◌, ◌-◌, ◌≤◌, Bool, List, [], ◌∷◌, ◌++◌, map, length, take, drop, Some, None, filter, Option, nat_lt}
 use Rattle.codes.specs.Rules.{after, Alike}
 use Rattle.std.specs.List.{AllByRecursion as All}
 use Rattle.frames.specs.Terms.{Terms, limit}

@@ -1,5 +1,5 @@
 -- What a receiver makes of the octets that its line code gives back, octet by octet.
-use Rattle.std.specs.Prelude.{ℕ, zero, suc, ◌+◌, ◌-◌, ◌*◌, Bool, cond, not, List, [], ◌∷◌, ◌++◌, length, take, drop, Some, None, Option, ◌==◌, nat_lt, slice_index}
+use Rattle.std.specs.Prelude.{ℕ, suc, ◌+◌, ◌-◌, ◌*◌, Bool, cond, not, List, [], ◌∷◌, ◌++◌, length, take, drop, Some, None, Option, ◌==◌, nat_lt, slice_index}
 use Rattle.frames.specs.declared.answers.Fault.{Fault}
 use Rattle.frames.specs.declared.answers.Fault.TheVariants as fault
 use Rattle.frames.specs.declared.answers.Report.{Report}

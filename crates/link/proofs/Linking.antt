@@ -1,10 +1,10 @@
 -- One call over a link: what the receiver makes of the octets that the sender wrote.
-use Rattle.std.proofs.Common.{◌≡◌, ℕ, ◌+◌, ◌<◌, ◌≤◌, min, Bool, true, false, List, [], ◌∷◌, ◌++◌, length, take, drop, Some, None, Option, sym, refl, ap, ◌∙◌, subst, ap₂, inl, arith, length-append, length-take}
+use Rattle.std.proofs.Common.{◌≡◌, ℕ, ◌+◌, ◌≤◌, Bool, true, false, List, [], ◌++◌, length, take, drop, Some, None, Option, sym, refl, ap, ◌∙◌, subst, ap₂, inl, arith, length-append, length-take}
 use Rattle.std.proofs.lemmas.List.{take_at, take_all, drop_at}
 use Rattle.std.specs.Option.{option_map, option_to_list}
 use Rattle.octets.specs.Octets.{Octets}
 use Rattle.octets.proofs.Joined.{octets_append}
-use Rattle.codes.specs.Rules.{Rule, Alike, Undoes, after}
+use Rattle.codes.specs.Rules.{Rule, after}
 use Rattle.codes.specs.Remainders.{answer_append, answer_nil, after_rule, after_after}
 use Rattle.checks.specs.Law.{Width, Owes, Tells}
 use Rattle.frames.specs.declared.answers.Report.{Report}

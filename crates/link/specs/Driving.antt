@@ -1,5 +1,5 @@
 -- A sender driven by calls given as data: at any moment it stands at a frame and at the octets sent so far.
-use Rattle.std.specs.Prelude.{◌≡◌, ℕ, Bool, true, false, List, [], ◌++◌, length, drop, Some, None, Option}
+use Rattle.std.specs.Prelude.{◌≡◌, ℕ, Bool, true, false, List, ◌++◌, length, drop, Some, None, Option}
 use Rattle.codes.specs.Rules.{Alike, after}
 use Rattle.frames.specs.declared.answers.Refusal.{Refusal}
 use Rattle.frames.specs.Terms.{Terms}

@@ -5,9 +5,9 @@ use Rattle.codes.specs.Registers.{scrambled_rule, descrambled_rule, descrambles}
 use Rattle.frames.specs.Terms.{Terms}
 use Rattle.frames.specs.Calls.{Call, idle}
 use Rattle.link.specs.declared.link.Link.{Link}
-use Rattle.link.specs.Linked.{Start, Linked}
+use Rattle.link.specs.Linked.{Linked}
 use Rattle.listing.specs.Listing.{rows}
-use Rattle.listing.specs.Steps.{At, ListsAll}
+use Rattle.listing.specs.Steps.{ListsAll}
 
 module _ {L D K : Type 0} (onward : L → List ℕ → List ℕ) (back : D → List ℕ → List ℕ) (owes : K → List ℕ → List ℕ) (passes : K → List ℕ → Bool) (owed : List ℕ → List ℕ) (good : List ℕ → Bool) (width : ℕ) where
   -- two scramblers from the same register, nothing sent

@@ -1,26 +1,23 @@
 -- What a call's row says, from what the call over the link promises.
 use Rattle.std.proofs.Common.{◌≡◌, ℕ, ◌+◌, ◌≤◌, Bool, true, false, List, [], ◌∷◌, ◌++◌, length, take, drop, Some, None, Option, sym, refl, ap, ◌∙◌, subst, ap₂, arith, length-append}
 use Rattle.std.proofs.lemmas.List.{take_at, append-nil, append_assoc}
-use Rattle.std.specs.Option.{option_map}
 use Rattle.octets.specs.Octets.{Octets}
 use Rattle.octets.proofs.Joined.{octets_append}
-use Rattle.codes.specs.Rules.{Rule, after}
+use Rattle.codes.specs.Rules.{after}
 use Rattle.codes.specs.Remainders.{after_rule}
 use Rattle.checks.specs.Law.{Owes}
 use Rattle.frames.specs.declared.answers.Refusal.{Refusal}
 use Rattle.frames.specs.declared.answers.Report.{Report}
 use Rattle.frames.specs.Numbers.{refusal_number}
 use Rattle.frames.specs.Terms.{Terms}
-use Rattle.frames.specs.Calls.{Call, Frame, allows, octets, next, refused, if_taken, entered, Typed}
-use Rattle.frames.specs.Receiving.{report_of}
+use Rattle.frames.specs.Calls.{Call, Frame, allows, octets, next, refused, if_taken, Typed}
 use Rattle.frames.proofs.Lines.{call_octets}
 use Rattle.receiver.specs.Models.{ear}
-use Rattle.link.specs.declared.calls.Answer.{Answer}
 use Rattle.link.specs.declared.calls.Answer.TheVariants as answer
 use Rattle.link.specs.declared.link.Link.{Link}
-use Rattle.link.specs.Linked.{first, Start, Linked, Exchanged, IfPermitted, Exchanges}
+use Rattle.link.specs.Linked.{Exchanged, IfPermitted, Exchanges}
 use Rattle.link.proofs.Linking.{followed_known, written≢refused, written≢not_allowed, written_same}
-use Rattle.script.specs.Rows.{letter_of, report_row, row, unfit_row}
+use Rattle.script.specs.Rows.{letter_of, report_row, unfit_row}
 use Rattle.listing.specs.Listing.{call_row, allowed_row, allowed_frame, allowed_sent, line_row, line_frame, line_sent, rows}
 use Rattle.listing.specs.Steps.{At, Lists, ListsAll}
 

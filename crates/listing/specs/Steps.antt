@@ -1,5 +1,5 @@
 -- What each step of a run adds to a listing, wherever the link stands.
-use Rattle.std.specs.Prelude.{◌≡◌, ℕ, ◌≤◌, Bool, List, [], ◌∷◌, ◌++◌, length, Some, None, Option}
+use Rattle.std.specs.Prelude.{◌≡◌, ℕ, ◌≤◌, Bool, List, ◌++◌, Option}
 use Rattle.octets.specs.Octets.{Octets}
 use Rattle.frames.specs.Terms.{Terms}
 use Rattle.frames.specs.Calls.{Call, Frame}

@@ -1,6 +1,6 @@
 -- Laws of exclusive-or that the library does not have.
 use Rattle.std.proofs.Common.{◌≡◌, ℕ, sym, ap, ◌∙◌}
-use lib.Bits.{bit_xor, xor_assoc, xor_comm, xor_self, xor_zero_r, xor_zero_l}
+use lib.Bits.{bit_xor, xor_assoc, xor_comm, xor_self, xor_zero_r}
 
 -- the same operand twice is none
 pub xor_twice : (a b : ℕ) → bit_xor (bit_xor a b) b ≡ a

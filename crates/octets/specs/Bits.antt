@@ -1,5 +1,5 @@
 -- Bits of numbers, and the two orders in which an octet's bits are taken.
-use Rattle.std.specs.Prelude.{ℕ, ◌+◌, ◌*◌, ◌/◌, ◌%◌, ◌^◌, List, [], ◌∷◌}
+use Rattle.std.specs.Prelude.{ℕ, ◌/◌, ◌%◌, ◌^◌, List, [], ◌∷◌}
 
 -- the bit of n that is worth 2 ^ k
 abbrev pub bit : ℕ → ℕ → ℕ

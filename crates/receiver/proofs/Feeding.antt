@@ -13,7 +13,7 @@ use Rattle.frames.specs.declared.answers.Report.{Report}
 use Rattle.frames.specs.Of.{terms}
 use Rattle.std.specs.Option.{option_map}
 use Rattle.receiver.specs.declared.receiver.Receiver.{Receiver}
-use Rattle.receiver.specs.Models.{ear, AlikeEars, Heard, HasHeard, First, uses, raises, first_of}
+use Rattle.receiver.specs.Models.{ear, AlikeEars, Heard, First, first_of}
 
 pub same_ear : (e e' : Ear) → AlikeEars e e' → e ≡ e'
 same_ear e e' h = λ i. record { standing = h.standing i; gathered = h.gathered i; good_with = λ os. h.good_with os i }

@@ -1,8 +1,8 @@
 -- A frame with no fault is handed over.
-use Rattle.std.proofs.Common.{◌≡◌, ℕ, ◌+◌, ◌-◌, ◌≤◌, min, true, false, eqb, ltb, List, length, get_or, take, drop, refl, arith, length-drop, length-take}
+use Rattle.std.proofs.Common.{◌≡◌, ℕ, ◌+◌, ◌-◌, ◌≤◌, true, List, length, get_or, arith, length-drop, length-take}
 use Rattle.std.proofs.lemmas.Bool.{le-ltb, eq-eqb}
 use Rattle.frames.specs.Terms.{Terms, serves, header_length}
-use Rattle.frames.specs.Calls.{Entry, handed_over}
+use Rattle.frames.specs.Calls.{handed_over}
 use Rattle.frames.specs.Receiving.{judgement, sapi_of, information_of}
 
 pub information_length : (σ : Terms) (g : List ℕ) → header_length + σ.width ≤ length g → length (information_of σ g) ≡ length g - 4 - σ.width

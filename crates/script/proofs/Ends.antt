@@ -1,8 +1,8 @@
 -- The first line of a text, by where its end stands.
-use Rattle.std.proofs.Common.{◌≡◌, ℕ, zero, suc, ◌+◌, ◌<◌, false, eqb, List, [], ◌∷◌, ◌++◌, length, get_or, take, drop, sym, refl, ap, ◌∙◌, arith, drop-cons}
+use Rattle.std.proofs.Common.{◌≡◌, ℕ, zero, suc, ◌<◌, false, eqb, List, [], ◌∷◌, ◌++◌, length, get_or, take, drop, sym, ap, ◌∙◌, arith, drop-cons}
 use Rattle.std.proofs.lemmas.List.{take-append-drop}
 use Rattle.std.proofs.lemmas.Bool.{ne_eqb, eq-eqb}
-use Rattle.script.specs.Script.{Line, ended, unended, in_front, lines, line_end}
+use Rattle.script.specs.Script.{ended, unended, in_front, lines, line_end}
 
 -- no line end among the octets before place i
 abbrev pub WithoutEnd : ℕ → List ℕ → Type 0

@@ -1,5 +1,5 @@
 -- The definitions at work, on a whole script and on rows of each form.
-use Rattle.std.proofs.Common.{◌≡◌, [], ◌∷◌, ◌++◌, Some, None, codes, refl}
+use Rattle.std.proofs.Common.{◌≡◌, [], ◌∷◌, Some, None, codes, refl}
 use Rattle.frames.specs.Calls.{opening, adding, adapting, filling, closing, aborting, spoiling, handed_over, faulty}
 use Rattle.frames.specs.declared.answers.Fault.TheVariants as fault
 use Rattle.text.specs.Decimal.{decimal}

@@ -1,8 +1,7 @@
 -- What a line and a SAPI read as, by the octets at their places.
-use Rattle.std.proofs.Common.{◌≡◌, ℕ, ◌+◌, ◌-◌, ◌*◌, ◌≤◌, cond, eqb, List, [], ◌∷◌, length, get_or, take, drop, Some, None, Option, sym, refl, ap, ◌∙◌, arith}
+use Rattle.std.proofs.Common.{◌≡◌, ℕ, ◌+◌, ◌-◌, ◌*◌, ◌≤◌, cond, List, [], ◌∷◌, length, get_or, take, drop, Some, None, Option, sym, refl, ap, ◌∙◌, arith}
 use Rattle.std.proofs.lemmas.List.{take_rest}
 use Rattle.std.proofs.lemmas.Bool.{eq-eqb}
-use Rattle.frames.specs.Calls.{Call}
 use Rattle.text.specs.Hex.{digit_value, both, behind, unhex}
 use Rattle.script.specs.declared.kind.Kind.{Kind}
 use Rattle.script.specs.Script.{comma, kind_of, call_with, read_call, word}

@@ -1,9 +1,9 @@
 -- Octets put through a line code one after the other.
-use Rattle.std.proofs.Common.{◌≡◌, ℕ, zero, suc, ◌+◌, ◌*◌, ◌<◌, ◌≤◌, ◌≢◌, List, [], ◌∷◌, ◌++◌, length, get_or, take, drop, set, sym, refl, ap, ◌∙◌, subst, append_assoc, add-one, arith, lit<, length-append}
-use Rattle.std.proofs.lemmas.List.{append-nil, take-append-drop, take_at, drop_at, drop-drop, length-take-le, set_split, take_more, flat_map_more, length-replicate, replicate_more}
+use Rattle.std.proofs.Common.{◌≡◌, ℕ, zero, suc, ◌+◌, ◌*◌, ◌<◌, ◌≤◌, ◌≢◌, List, [], ◌∷◌, ◌++◌, length, get_or, take, drop, sym, refl, ap, ◌∙◌, subst, append_assoc, add-one, arith, lit<, length-append}
+use Rattle.std.proofs.lemmas.List.{take-append-drop, take_at, drop_at, drop-drop, length-take-le, set_split, take_more, flat_map_more, length-replicate, replicate_more}
 use Rattle.std.proofs.lemmas.Bool.{ne_eqb}
 use Rattle.octets.specs.Octets.{Octets}
-use Rattle.codes.specs.Rules.{Rule, after, Alike, Steps}
+use Rattle.codes.specs.Rules.{Rule}
 use Rattle.octets.proofs.Joined.{octets_append}
 use Rattle.codes.specs.Remainders.{answer_append, answer_nil, after_after}
 use Rattle.frames.specs.Layout.{flag, escape, stuffed, stuff, adaptations, filling_octets}

@@ -1,6 +1,6 @@
 -- What a sender's calls answer and leave, for any line code and any check. `before` and `left` are what the stretch
 -- holds before and after the call.
-use Rattle.std.specs.Prelude.{◌≡◌, ℕ, ◌+◌, cond, List, [], ◌++◌, length, drop, Some, None, Ok, Err, Option, Result, ◌≢◌, nat_lt}
+use Rattle.std.specs.Prelude.{◌≡◌, ℕ, ◌+◌, cond, List, ◌++◌, length, drop, Some, None, Ok, Err, Option, Result, ◌≢◌, nat_lt}
 use Rattle.codes.specs.Rules.{after, Alike}
 use Rattle.frames.specs.declared.answers.Refusal.{Refusal}
 use Rattle.frames.specs.declared.answers.Refusal.TheVariants as refusal

@@ -1,5 +1,5 @@
 -- What `{n}` writes is `decimal`.
-use Rattle.std.proofs.Common.{◌≡◌, ℕ, zero, suc, ◌+◌, ◌^◌, ◌<◌, Bool, false, cond, eqb, List, [], ◌∷◌, map, sym, ap, ◌∙◌, arith, ne_eqb}
+use Rattle.std.proofs.Common.{◌≡◌, ℕ, zero, suc, ◌+◌, ◌^◌, ◌<◌, Bool, cond, [], ◌∷◌, map, sym, ap, ◌∙◌, arith, ne_eqb}
 use Rattle.std.specs.Int.Digits.{digits_of}
 use Rattle.std.specs.Fmt as written
 use Rattle.std.proofs.lemmas.Fmt.{decimal_digit, decimal-digits_of}

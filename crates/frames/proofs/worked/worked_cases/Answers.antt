@@ -1,4 +1,4 @@
-use Rattle.std.proofs.Common.{◌≡◌, ℕ, zero, suc, Bool, List, [], ◌∷◌, ◌++◌, length, replicate, Some, sym, refl, arith}
+use Rattle.std.proofs.Common.{ℕ, zero, suc, Bool, List, [], ◌∷◌, ◌++◌, replicate, Some, sym, refl, arith}
 use lib.ListN.{length-replicate}
 use Rattle.std.proofs.lemmas.List.{append-nil}
 use Rattle.frames.specs.declared.answers.Fault.TheVariants as fault
@@ -6,7 +6,7 @@ use Rattle.frames.specs.Layout.{flag, adaptations}
 use Rattle.frames.specs.Calls.{faulty}
 use Rattle.frames.specs.Receiving.{ear_after}
 use Rattle.frames.specs.Hearing.{reports_from}
-use Rattle.frames.specs.Pieces.{Reads, empty, plain, Says, overlong, Tells, unfinished, ended, History, begun_at}
+use Rattle.frames.specs.Pieces.{Reads, empty, plain, overlong, unfinished, ended, History, begun_at}
 use Rattle.frames.specs.Worked.{usual}
 use Rattle.frames.proofs.Grammar.{reports_are_said}
 use Rattle.frames.proofs.Readings.{reads_no_flag}

@@ -1,4 +1,4 @@
-use Rattle.std.proofs.Common.{◌≡◌, ap, ◌∙◌}
+use Rattle.std.proofs.Common.{ap, ◌∙◌}
 use Rattle.inspect.proofs.Typed.{typed}
 use Rattle.inspect.proofs.carried.through.Goals as goal
 

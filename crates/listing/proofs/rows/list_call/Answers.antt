@@ -1,4 +1,4 @@
-use Rattle.std.proofs.Common.{◌≡◌, ℕ, List, [], ◌++◌, None, vec_items, sym, ap, ◌∙◌, subst, subst₂}
+use Rattle.std.proofs.Common.{[], ◌++◌, None, vec_items, ap, ◌∙◌, subst, subst₂}
 use Rattle.frames.specs.Calls.{Typed}
 use Rattle.link.specs.Linked.{Exchanges}
 use Rattle.script.specs.Requests.{request_call}

@@ -1,5 +1,4 @@
-use Rattle.std.proofs.Common.{◌≡◌, ℕ, List, [], map, length, vec_items, refl, ap, ◌∙◌, subst, subst₂}
-use Rattle.frames.specs.Calls.{Call}
+use Rattle.std.proofs.Common.{◌≡◌, ℕ, List, [], map, length, vec_items, ap, subst, subst₂}
 use Rattle.script.specs.Requests.{line_of}
 use Rattle.script.specs.Script.{lines, line_call}
 use Rattle.listing.specs.Steps.{Lists}

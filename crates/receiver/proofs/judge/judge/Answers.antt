@@ -1,4 +1,4 @@
-use Rattle.std.proofs.Common.{◌≡◌, ◌+◌, ◌-◌, ◌*◌, ◌≤◌, true, ◌++◌, length, get_or, take, drop, sym, refl, ap, ◌∙◌, ap₂, arith, length-drop, length-take, rules}
+use Rattle.std.proofs.Common.{◌≡◌, ◌+◌, ◌-◌, ◌≤◌, true, ◌++◌, length, get_or, take, drop, sym, ap, ◌∙◌, ap₂, arith, length-drop, length-take, rules}
 use Rattle.std.proofs.lemmas.List.{take_rest}
 use Rattle.frames.specs.Of.{terms}
 use Rattle.frames.specs.Terms.{serves}

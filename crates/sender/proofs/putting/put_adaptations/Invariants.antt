@@ -1,4 +1,3 @@
-use Rattle.std.proofs.Common.{take}
 use Rattle.frames.specs.Layout.{adapting_octets}
 use Rattle.sender.specs.Writing.{Put}
 use Rattle.sender.proofs.putting.put_adaptations.Given as goal

@@ -1,4 +1,4 @@
-use Rattle.std.proofs.Common.{◌<◌, ◌≤◌, length, arith}
+use Rattle.std.proofs.Common.{◌<◌, length, arith}
 use Rattle.std.proofs.lemmas.List.{length-replicate}
 use Rattle.frames.specs.Layout.{flag}
 use Rattle.sender.proofs.Puts.{put_none, put_one, flags_more}

@@ -1,5 +1,5 @@
-use Rattle.std.proofs.Common.{◌≡◌, ◌<◌, ◌≢◌, length, sym, ap, subst, arith}
-use Rattle.frames.specs.Layout.{flag, escape, stuffed}
+use Rattle.std.proofs.Common.{◌<◌, ◌≢◌, length, ap, subst, arith}
+use Rattle.frames.specs.Layout.{flag, escape}
 use Rattle.sender.specs.Writing.{Put}
 use Rattle.sender.proofs.Puts.{put_one, stuffed_plain}
 use Rattle.sender.proofs.putting.put_stuffed.Goals as goal

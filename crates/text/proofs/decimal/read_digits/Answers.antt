@@ -1,6 +1,6 @@
-use Rattle.std.proofs.Common.{◌≡◌, ◌+◌, ◌<◌, ◌≤◌, length, get_or, drop, Some, None, sym, ap, ◌∙◌, arith}
+use Rattle.std.proofs.Common.{◌+◌, ◌≤◌, length, drop, Some, sym, ap, ◌∙◌, arith}
 use Rattle.std.proofs.lemmas.List.{at_drop_more, at_drop_all}
-use Rattle.text.specs.Decimal.{read_on, number_with_digit}
+use Rattle.text.specs.Decimal.{read_on}
 use Rattle.text.proofs.decimal.read_digits.Goals as goal
 
 pub returns-in_err-number : goal.returns-in_err-number

@@ -1,7 +1,4 @@
-use Rattle.std.proofs.Common.{◌≡◌, ℕ, sym, ◌∙◌, subst, arith}
-use Rattle.frames.specs.declared.answers.Refusal.{Refusal}
-use Rattle.link.specs.declared.calls.Answer.{Answer}
-use Rattle.link.specs.declared.calls.Answer.TheVariants as answer
+use Rattle.std.proofs.Common.{sym, ◌∙◌, subst}
 use Rattle.link.specs.Driving.{call_of_request, CallsOn}
 use Rattle.link.proofs.Linking.{written, unwritten, written≢refused, written≢not_allowed}
 use Rattle.link.proofs.link.Link.call.Goals as goal

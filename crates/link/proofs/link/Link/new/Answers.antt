@@ -1,4 +1,3 @@
-use Rattle.std.proofs.Common.{rules}
 use Rattle.link.proofs.Linking.{linked_new}
 use Rattle.link.proofs.link.Link.new.Goals as goal
 

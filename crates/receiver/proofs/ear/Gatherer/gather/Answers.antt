@@ -1,4 +1,4 @@
-use Rattle.std.proofs.Common.{◌≡◌, ◌<◌, ◌≤◌, true, ltb, length, take, refl, arith, rules}
+use Rattle.std.proofs.Common.{◌≡◌, ◌<◌, true, ltb, length, take, refl, arith, rules}
 use Rattle.std.proofs.lemmas.List.{length-take-le, take_more_set}
 use Rattle.std.proofs.lemmas.Bool.{lt-ltb}
 use Rattle.frames.specs.Of.{terms}
