@@ -1,6 +1,6 @@
 -- From what each half of a run promises to the whole.
 use Rattle.std.proofs.Common.{◌≡◌, ℕ, Bool, List, [], ◌++◌, map, vec_items, sym, refl, ap, ◌∙◌, subst, ap₂, inl}
-use Rattle.std.specs.List.{AllByRecursion as All}
+use Rattle.std.specs.List.{AllByRecursion}
 use Rattle.octets.specs.Octets.{Octets}
 use Rattle.codes.specs.Rules.{Rule, Undoes, Alike}
 use Rattle.checks.specs.Law.{Width, Owes, Tells}

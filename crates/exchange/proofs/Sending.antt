@@ -1,7 +1,7 @@
 -- A sender through a list of calls: from what each call drives it to.
 use Rattle.std.proofs.Common.{◌≡◌, ℕ, ◌+◌, ◌≤◌, Bool, true, false, cond, List, [], ◌∷◌, ◌++◌, length, take, drop, Some, None, Option, sym, refl, ap, ◌∙◌, subst, ap₂, arith}
 use Rattle.std.proofs.lemmas.List.{take_at, append-nil, append_assoc}
-use Rattle.std.specs.List.{AllByRecursion as All}
+use Rattle.std.specs.List.{AllByRecursion}
 use Rattle.octets.specs.Octets.{Octets}
 use Rattle.octets.proofs.Joined.{octets_append}
 use Rattle.codes.specs.Rules.{Rule, after}
@@ -80,7 +80,7 @@ module _ {L K : Type 0} (onward : L → List ℕ → List ℕ) (owes : K → Lis
     coded φ sent (κ ∷ κs) = after start sent (written_at σ owed φ κ) ++ coded (frame_at σ owed φ κ) (sent ++ written_at σ owed φ κ) κs
 
     -- it is the line code on what the calls write that are allowed
-    coded_line : (κs : List Lent) (φ : Frame) (sent : List ℕ) → Octets sent → Known φ → All (λ κ. Typed κ.call) κs
+    coded_line : (κs : List Lent) (φ : Frame) (sent : List ℕ) → Octets sent → Known φ → AllByRecursion (λ κ. Typed κ.call) κs
         → coded φ sent κs ≡ after start sent (line σ owed φ (allowed σ owed φ κs))
     unfolding coded line allowed
     coded_line [] φ sent o k t = sym (none_more start rule sent o)
@@ -104,7 +104,7 @@ module _ {L K : Type 0} (onward : L → List ℕ → List ℕ) (owes : K → Lis
   module _ (κs₀ : List Lent) (s₀ : Sender L K) (text₀ : List ℕ) (past₀ : List Answer) where
     abbrev pub Progress : List Lent → Sender L K → List ℕ → List Answer → Type 0
     Progress κs s text past =
-        (All (λ κ. Typed κ.call) κs → All (λ κ. Typed κ.call) κs₀)
+        (AllByRecursion (λ κ. Typed κ.call) κs → AllByRecursion (λ κ. Typed κ.call) κs₀)
         × ((start : List ℕ → List ℕ) (rule : Rule start) (σ : Terms) (φ₀ : Frame) (sent₀ : List ℕ) → Octets sent₀ → Known φ₀ → Stands onward owes owed start σ φ₀ sent₀ s₀
         → (φ : Frame) × (sent : List ℕ) × Octets sent × Known φ × Stands onward owes owed start σ φ sent s
         × (past₀ ++ answers σ owed φ₀ κs₀ ≡ past ++ answers σ owed φ κs)
@@ -142,7 +142,7 @@ module _ {L K : Type 0} (onward : L → List ℕ → List ℕ) (owes : K → Lis
     pub progress_all : (s : Sender L K) (text : List ℕ) (past : List Answer) → Progress [] s text past → SendsAll onward owes owed κs₀ s₀ text₀ past₀ text past
     unfolding coded answers
     progress_all s text past p =
-        let t : All (λ κ. Typed κ.call) κs₀ = p.0 tt in (
+        let t : AllByRecursion (λ κ. Typed κ.call) κs₀ = p.0 tt in (
           t,
           λ start rule σ φ sent o k st.
               let so = p.1 start rule σ φ sent o k st in (

@@ -1,6 +1,6 @@
 -- What a sender makes of a whole list of calls, those that it does not allow included.
 use Rattle.std.specs.Prelude.{◌≡◌, ℕ, cond, List, [], ◌∷◌, ◌++◌, length, take, Some, None, Option}
-use Rattle.std.specs.List.{AllByRecursion as All}
+use Rattle.std.specs.List.{AllByRecursion}
 use Rattle.octets.specs.Octets.{Octets}
 use Rattle.codes.specs.Rules.{Rule, after}
 use Rattle.frames.specs.declared.answers.Refusal.{Refusal}
@@ -52,6 +52,6 @@ module _ {L K : Type 0} (onward : L → List ℕ → List ℕ) (owes : K → Lis
   -- a list of calls: their answers, and on the line what the calls write that are allowed where they stand
   abbrev pub SendsAll : List Lent → Sender L K → List ℕ → List Answer → List ℕ → List Answer → Type 0
   SendsAll κs s text past text' past' =
-      All (λ κ. Typed κ.call) κs
+      AllByRecursion (λ κ. Typed κ.call) κs
       × ((start : List ℕ → List ℕ) → Rule start → (σ : Terms) (φ : Frame) (sent : List ℕ) → Octets sent → Known φ → Stands onward owes owed start σ φ sent s
       → (past' ≡ past ++ answers σ owed φ κs) × (text' ≡ text ++ after start sent (line σ owed φ (allowed σ owed φ κs))))

@@ -1,7 +1,7 @@
 -- All that a sender writes before line coding are octets.
 use Rattle.std.proofs.Common.{ℕ, zero, suc, ◌<◌, eqb, List, [], ◌∷◌, replicate, Some, None, Option, arith}
 use Rattle.std.proofs.lemmas.Bool.{cond_both}
-use Rattle.std.specs.List.{AllByRecursion as All}
+use Rattle.std.specs.List.{AllByRecursion}
 use Rattle.octets.specs.Octets.{Octets}
 use Rattle.octets.proofs.Joined.{octets_append}
 use Rattle.frames.specs.declared.answers.Refusal.{Refusal}
@@ -62,7 +62,7 @@ module _ (owed : List ℕ → List ℕ) (fits : (m : List ℕ) → Octets m → 
   either_way P None x y p q = p
   either_way P (Some r) x y p q = q
 
-  pub line_octets : (σ : Terms) (κs : List Lent) (φ : Frame) → Known φ → All (λ κ. Typed κ.call) κs → Octets (line σ owed φ κs)
+  pub line_octets : (σ : Terms) (κs : List Lent) (φ : Frame) → Known φ → AllByRecursion (λ κ. Typed κ.call) κs → Octets (line σ owed φ κs)
   unfolding line
   line_octets σ [] φ k t = tt
   line_octets σ (κ ∷ κs) φ k t =

@@ -7,7 +7,7 @@ use Rattle.std.proofs.lemmas.Bool.{le-ltb, ltb-false, ne_eqb, cases_Bool, true�
 use Rattle.octets.specs.Octets.{Octets}
 use Rattle.codes.specs.Rules.{Rule, Undoes}
 use Rattle.checks.specs.Law.{Width, Owes, Tells}
-use Rattle.std.specs.List.{AllByRecursion as All}
+use Rattle.std.specs.List.{AllByRecursion}
 use Rattle.frames.specs.declared.answers.Fault.TheVariants as fault
 use Rattle.frames.specs.declared.answers.Refusal.{Refusal}
 use Rattle.frames.specs.Terms.{Terms, serves, limit}
@@ -174,14 +174,14 @@ module _ (σ : Terms) (owed : List ℕ → List ℕ) (good : List ℕ → Bool) 
     follow (opened s i) spoiling room e p f a t r = spoils s i e p f
 
     -- and so is any list of calls
-    pub sent : (κs : List Lent) (φ : Frame) (e : Ear) (p : ℕ) → Follows σ good φ e → All (λ κ. Typed κ.call) κs → Permitted σ owed φ κs
+    pub sent : (κs : List Lent) (φ : Frame) (e : Ear) (p : ℕ) → Follows σ good φ e → AllByRecursion (λ κ. Typed κ.call) κs → Permitted σ owed φ κs
         → entries (reports_from σ good e p (line σ owed φ κs)) ≡ ledger σ owed φ κs
     unfolding Permitted line ledger reports_from
     sent [] φ e p f t a = refl
     sent (κ ∷ κs) φ e p f t a = go (refused σ owed φ κ.call κ.room) refl (sent κs)
       where
         Rest : Type 0
-        Rest = (φ : Frame) (e : Ear) (p : ℕ) → Follows σ good φ e → All (λ κ. Typed κ.call) κs → Permitted σ owed φ κs → entries (reports_from σ good e p (line σ owed φ κs)) ≡ ledger σ owed φ κs
+        Rest = (φ : Frame) (e : Ear) (p : ℕ) → Follows σ good φ e → AllByRecursion (λ κ. Typed κ.call) κs → Permitted σ owed φ κs → entries (reports_from σ good e p (line σ owed φ κs)) ≡ ledger σ owed φ κs
 
         go : (v : Option Refusal) → refused σ owed φ κ.call κ.room ≡ v → Rest
             → entries (reports_from σ good e p (line σ owed φ (κ ∷ κs))) ≡ ledger σ owed φ (κ ∷ κs)

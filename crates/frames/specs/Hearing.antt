@@ -1,7 +1,7 @@
 -- Hearing: any feeds, one after the other, of the octets of a line.
 use Rattle.std.specs.Prelude.{◌≡◌, ℕ, suc, ◌+◌, ◌-◌, ◌≤◌, Bool, List, [], ◌∷◌, ◌++◌, map, length, take, drop, Some, None, filter, Option, nat_lt}
 use Rattle.codes.specs.Rules.{after, Alike}
-use Rattle.std.specs.List.{AllByRecursion as All}
+use Rattle.std.specs.List.{AllByRecursion}
 use Rattle.frames.specs.Terms.{Terms, limit}
 use Rattle.frames.specs.Calls.{Entry}
 use Rattle.frames.specs.Receiving.{Ear, moved, raised, used, reported, ear_after}
@@ -27,7 +27,7 @@ pub record Feed : Type 0 where
 
 -- a delivery buffer holds the longest information
 abbrev pub Roomy : Terms → List Feed → Type 0
-Roomy σ = All (λ φ. σ.longest ≤ φ.room)
+Roomy σ = AllByRecursion (λ φ. σ.longest ≤ φ.room)
 
 -- a receiver: its line code's back rule and what it has in hand
 pub record Receiver : Type 0 where

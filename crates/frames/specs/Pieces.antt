@@ -2,7 +2,7 @@
 -- one verdict. `good` is the check's own.
 use Rattle.std.specs.Prelude.{◌≡◌, ℕ, suc, ◌≤◌, Bool, cond, ◌≢◌, List, [], ◌∷◌, ◌++◌, length, Some, None, Option, ◌==◌}
 use Rattle.std.specs.Option.{option_to_list}
-use Rattle.std.specs.List.{AllByRecursion as All}
+use Rattle.std.specs.List.{AllByRecursion}
 use Rattle.frames.specs.declared.answers.Fault.TheVariants as fault
 use Rattle.frames.specs.Terms.{Terms, limit}
 use Rattle.frames.specs.Layout.{flag, escape}
@@ -11,7 +11,7 @@ use Rattle.frames.specs.Receiving.{hunting, judgement, ear_after}
 use Rattle.frames.specs.Hearing.{reports_from, entries}
 
 abbrev pub NoFlag : List ℕ → Type 0
-NoFlag = All (λ o. o ≢ flag)
+NoFlag = AllByRecursion (λ o. o ≢ flag)
 
 -- how octets between flags read: each octet other than a flag and an escape stands for itself, an escape pair for an
 -- escape or a flag, and a rate adaptation pair for nothing

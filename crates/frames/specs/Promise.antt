@@ -2,7 +2,7 @@
 use Rattle.std.specs.Prelude.{◌≡◌, ℕ, ◌+◌, ◌<◌, ◌≤◌, Bool, List, [], length, drop, slice_index}
 use Rattle.octets.specs.Octets.{Octets}
 use Rattle.codes.specs.Rules.{Rule, Alike}
-use Rattle.std.specs.List.{AllByRecursion as All}
+use Rattle.std.specs.List.{AllByRecursion}
 use Rattle.frames.specs.Terms.{Terms, Valid}
 use Rattle.frames.specs.Layout.{flag}
 use Rattle.frames.specs.Calls.{Lent, Permitted, Typed, idle, line, ledger}
@@ -16,7 +16,7 @@ abbrev pub SentIsReported : {C D : Type 0} → (C → List ℕ → List ℕ) →
 SentIsReported {C} {D} onward back onward' back' width owed good =
     (σ : Terms) → Valid σ → σ.width ≡ width
     → (c : C) (d : D) → Alike (onward c) (onward' d) → Alike (back c) (back' d)
-    → (κs : List Lent) → All (λ κ. Typed κ.call) κs → Permitted σ owed idle κs
+    → (κs : List Lent) → AllByRecursion (λ κ. Typed κ.call) κs → Permitted σ owed idle κs
     → (φs : List Feed) → Roomy σ φs
     → let h = hear σ good (record { back = back' d; ear = hunting good }) 0 (onward c (line σ owed idle κs)) φs in
     h.over ≡ [] → entries h.reports ≡ ledger σ owed idle κs
