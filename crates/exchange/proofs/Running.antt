@@ -16,7 +16,7 @@ use Rattle.frames.proofs.Sent.{sent}
 use Rattle.sender.specs.declared.idle.Idle.{Idle}
 use Rattle.receiver.specs.declared.receiver.Receiver.{Receiver}
 use Rattle.receiver.specs.Models.{ear, AlikeEars}
-use Rattle.receiver.proofs.Ears.{same_ear}
+use Rattle.hearing.proofs.Lines.{same_ear}
 use Rattle.calls.specs.declared.request.Answer.{Answer}
 use Rattle.calls.specs.declared.sender.Sender.TheVariants as sender
 use Rattle.hearing.specs.Hears.{placed_of, reports_of}

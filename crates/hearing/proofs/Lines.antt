@@ -1,7 +1,7 @@
 -- Feeds of a line, one after the other: what has been reported so far is what the octets heard so far say.
-use Rattle.std.proofs.Common.{◌≡◌, ℕ, suc, ◌+◌, ◌-◌, ◌<◌, ◌≤◌, min, Bool, List, [], ◌∷◌, ◌++◌, map, length, get_or, take, drop, Some, None, Option, sym, refl, ap, ◌∙◌, subst, ap₂, ⊎_elim, arith, length-drop, length-take, take-add}
+use Rattle.std.proofs.Common.{◌≡◌, ℕ, suc, ◌+◌, ◌-◌, ◌<◌, ◌≤◌, min, Bool, List, [], ◌∷◌, ◌++◌, map, length, get_or, take, drop, Some, None, Option, sym, refl, ap, ◌∙◌, subst, ap₂, ⊎_elim, arith, w8, Fits, length-drop, length-take, take-add}
 use Rattle.std.proofs.lemmas.List.{length-take-le, take-take, take_at, take_all, map-append}
-use Rattle.std.proofs.ByRecursion.{All-take, All-drop}
+use Rattle.std.proofs.ByRecursion.{All-from_get_or, All-take, All-drop}
 use Rattle.std.proofs.lemmas.Bool.{cases_lt}
 use Rattle.std.specs.Option.{option_map}
 use Rattle.octets.specs.Octets.{Octets}
@@ -17,9 +17,20 @@ use Rattle.frames.specs.Hearing.{Placed, placed, reports_from, Within}
 use Rattle.frames.proofs.Feeds.{ear_append, reports_append, used_le, used_some, one_feed}
 use Rattle.receiver.specs.declared.receiver.Receiver.{Receiver}
 use Rattle.receiver.specs.Models.{ear, AlikeEars, Fed, HasHeard}
-use Rattle.receiver.proofs.Ears.{same_ear, within}
+use Rattle.receiver.specs.declared.ear.Gatherer.{Gatherer}
 use Rattle.hearing.specs.declared.heard.Heard.{Heard}
 use Rattle.hearing.specs.Hears.{outcome_entry, placed_of, report_entry, noted, Step, reports_of}
+
+-- the octets of a slice, as the checker knows them
+pub typed : (xs : List ℕ) → ((i : ℕ) → Fits w8 (get_or xs i 0)) → Octets xs
+typed xs h = All-from_get_or (λ x. x < 256) xs 0 (λ i n. omega (arith, h i))
+
+pub same_ear : (e e' : Ear) → AlikeEars e e' → e ≡ e'
+same_ear e e' h = λ i. record { standing = h.standing i; gathered = h.gathered i; good_with = λ os. h.good_with os i }
+
+-- what a receiver has in hand is never more than a good frame has
+pub within : {K : Type 0} (passes : K → List ℕ → Bool) (g : Gatherer K) → Within (terms g.settings) (ear passes g)
+within passes g = rw length-take (omega (arith, g.within))
 
 -- a report and the delivery buffer tell the entry
 entry_told : (e : Entry) (buffer : List ℕ) → report_entry (report_of e) (delivered (Some e) buffer) ≡ e

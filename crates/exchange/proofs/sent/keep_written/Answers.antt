@@ -1,5 +1,5 @@
 use Rattle.std.proofs.Common.{◌≡◌, ◌-◌, min, ◌++◌, length, take, vec_items, ap, ◌∙◌, arith}
-use Rattle.octets.proofs.Typed.{take_min}
+use Rattle.std.proofs.lemmas.List.{take_min}
 use Rattle.exchange.proofs.sent.keep_written.Goals as goal
 
 pub returns-in-ok-extend-from-slice : goal.returns-in-ok-extend-from-slice

@@ -2,7 +2,7 @@ use Rattle.std.proofs.Common.{◌≡◌, ◌+◌, ◌<◌, ◌≤◌, length, ta
 use Rattle.std.proofs.lemmas.List.{take_rest}
 use Rattle.std.proofs.ByRecursion.{All-take, All-drop}
 use Rattle.octets.specs.Octets.{Octets}
-use Rattle.octets.proofs.Typed.{typed}
+use Rattle.hearing.proofs.Lines.{typed}
 use Rattle.receiver.specs.Models.{Fed}
 use Rattle.hearing.proofs.Lines.{fed_within, fed_raised, fed_some}
 use Rattle.hearing.proofs.line.feed_from.Goals as goal

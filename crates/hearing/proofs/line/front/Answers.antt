@@ -1,5 +1,5 @@
 use Rattle.std.proofs.Common.{◌≡◌, ◌-◌, min, length, take, ap, ◌∙◌, arith}
-use Rattle.octets.proofs.Typed.{take_min}
+use Rattle.std.proofs.lemmas.List.{take_min}
 use Rattle.hearing.proofs.line.front.Goals as goal
 
 pub returns : goal.returns

@@ -1,5 +1,5 @@
 use Rattle.std.proofs.Common.{◌≡◌, ◌≤◌, map, length, vec_items, sym, refl, ap, ◌∙◌, subst, arith, rules}
-use Rattle.octets.proofs.Typed.{typed}
+use Rattle.hearing.proofs.Lines.{typed}
 use Rattle.hearing.specs.Hears.{placed_of}
 use Rattle.hearing.proofs.Lines.{Gone, gone_none, gone_more, gone_all, gone_part}
 use Rattle.hearing.proofs.Late.{agrees_when_late}
