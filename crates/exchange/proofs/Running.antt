@@ -7,21 +7,21 @@ use Rattle.checks.specs.Law.{Width, Owes, Tells}
 use Rattle.frames.specs.declared.settings.Settings.{Settings}
 use Rattle.frames.specs.Terms.{Terms}
 use Rattle.frames.specs.Of.{terms}
-use Rattle.frames.specs.Calls.{idle, Lent, allowed, line, ledger, Typed}
+use Rattle.frames.specs.Calls.{idle, Lent, line, ledger, Typed}
 use Rattle.frames.specs.Receiving.{Ear, hunting}
 use Rattle.frames.specs.Hearing.{Placed, reports_from, entries}
 use Rattle.frames.proofs.Lines.{line_octets}
-use Rattle.frames.proofs.Allowed.{allowed-permitted, allowed-typed}
+use Rattle.exchange.proofs.Allowed.{allowed_permitted, allowed_typed}
 use Rattle.frames.proofs.Sent.{sent}
 use Rattle.sender.specs.declared.idle.Idle.{Idle}
 use Rattle.receiver.specs.declared.receiver.Receiver.{Receiver}
 use Rattle.receiver.specs.Models.{ear, AlikeEars}
 use Rattle.hearing.proofs.Lines.{same_ear}
-use Rattle.calls.specs.declared.request.Answer.{Answer}
-use Rattle.calls.specs.declared.sender.Sender.TheVariants as sender
+use Rattle.link.specs.declared.calls.Answer.{Answer}
+use Rattle.link.specs.declared.calling.Sender.TheVariants as sender
 use Rattle.hearing.specs.Hears.{placed_of, reports_of}
 use Rattle.exchange.specs.declared.run.Run.{Run}
-use Rattle.exchange.specs.Sending.{answers, SendsAll}
+use Rattle.exchange.specs.Sending.{allowed, answers, SendsAll}
 use Rattle.exchange.specs.Running.{Runs, RunsNew}
 
 module _ {L D K : Type 0} (onward back : L → List ℕ → List ℕ) (onward' back' : D → List ℕ → List ℕ) (owes : K → List ℕ → List ℕ) (owed : List ℕ → List ℕ) (passes : K → List ℕ → Bool) (good : List ℕ → Bool) (width : ℕ)
@@ -55,8 +55,8 @@ module _ {L D K : Type 0} (onward back : L → List ℕ → List ℕ) (onward' b
       reported : Alike (onward near) (onward' far) → Alike (back near) (back' far) → entries (map placed_of (vec_items run.reports)) ≡ ledger σ owed idle κs'
       reported same same' =
           let os = line σ owed idle κs' in
-          let typed = allowed-typed σ owed κs idle all.0 in
+          let typed = allowed_typed σ owed κs idle all.0 in
           let fits : Octets os = line_octets owed owing.octets σ κs' idle tt typed in
           let again : back' far (vec_items run.line) ≡ os = ap (back' far) written ∙ sym (same' (onward near os) ((sends near).octets os fits)) ∙ undoes near os fits in
           ap entries (heard ∙ ap (reports_from σ good (hunting good) 0) again)
-          ∙ sent σ owed good (subst (λ k. Owes k owed) (sym w) owing) (subst (λ k. Tells k owed good) (sym w) tells) (subst Width (sym w) wide) κs' idle (hunting good) 0 (inl refl) typed (allowed-permitted σ owed κs idle)
+          ∙ sent σ owed good (subst (λ k. Owes k owed) (sym w) owing) (subst (λ k. Tells k owed good) (sym w) tells) (subst Width (sym w) wide) κs' idle (hunting good) 0 (inl refl) typed (allowed_permitted σ owed κs idle)

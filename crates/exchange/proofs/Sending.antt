@@ -8,14 +8,14 @@ use Rattle.codes.specs.Rules.{Rule, after}
 use Rattle.codes.specs.Remainders.{answer_append, answer_nil, after_rule, after_after}
 use Rattle.frames.specs.declared.answers.Refusal.{Refusal}
 use Rattle.frames.specs.Terms.{Terms}
-use Rattle.frames.specs.Calls.{Frame, allows, octets, next, refused, if_taken, Lent, frame_after, written, allowed, line, Typed, Known}
+use Rattle.frames.specs.Calls.{Frame, allows, octets, next, refused, if_taken, Lent, frame_after, written, line, Typed, Known}
 use Rattle.frames.proofs.Lines.{call_octets, next_known, line_octets}
-use Rattle.frames.proofs.Allowed.{allowed-typed}
-use Rattle.calls.specs.declared.request.Answer.{Answer}
-use Rattle.calls.specs.declared.request.Answer.TheVariants as answer
-use Rattle.calls.specs.declared.sender.Sender.{Sender}
-use Rattle.calls.specs.Driving.{Stands, Driven, IfAllowed, CallsOn}
-use Rattle.exchange.specs.Sending.{front, answered, answer_at, frame_at, written_at, answers, SendsOne, SendsAll}
+use Rattle.exchange.proofs.Allowed.{allowed_typed}
+use Rattle.link.specs.declared.calls.Answer.{Answer}
+use Rattle.link.specs.declared.calls.Answer.TheVariants as answer
+use Rattle.link.specs.declared.calling.Sender.{Sender}
+use Rattle.link.specs.Driving.{Stands, Driven, IfAllowed, CallsOn}
+use Rattle.exchange.specs.Sending.{allowed, front, answered, answer_at, frame_at, written_at, answers, SendsOne, SendsAll}
 
 module _ {L K : Type 0} (onward : L → List ℕ → List ℕ) (owes : K → List ℕ → List ℕ) (owed : List ℕ → List ℕ) (fits : (m : List ℕ) → Octets m → Octets (owed m)) where
   -- nothing more is sent
@@ -94,7 +94,7 @@ module _ {L K : Type 0} (onward : L → List ℕ → List ℕ) (owes : K → Lis
             let w = written σ owed φ κ in
             let ψ = frame_after σ owed φ κ in
             let more = line σ owed ψ (allowed σ owed ψ κs) in
-            let om : Octets more = line_octets owed fits σ (allowed σ owed ψ κs) ψ kn (allowed-typed σ owed κs ψ t.1) in
+            let om : Octets more = line_octets owed fits σ (allowed σ owed ψ κs) ψ kn (allowed_typed σ owed κs ψ t.1) in
             ap (λ l. after start sent w ++ l) (rest ψ (sent ++ w) (octets_append sent w o ow) kn ∙ sym (after_after start sent w more))
             ∙ sym (answer_append (after start sent) (after_rule start rule sent o) w more ow om)
         go false ow kn rest =

@@ -4,7 +4,7 @@ use Rattle.codes.specs.Rules.{Alike}
 use Rattle.frames.specs.declared.answers.Refusal.TheVariants as refusal
 use Rattle.frames.specs.declared.settings.Settings.{Settings}
 use Rattle.frames.specs.Of.{terms}
-use Rattle.frames.specs.Calls.{idle, Lent, allowed, line, ledger}
+use Rattle.frames.specs.Calls.{idle, Lent, line, ledger}
 use Rattle.frames.specs.Receiving.{hunting}
 use Rattle.frames.specs.Hearing.{reports_from, entries}
 use Rattle.sender.specs.declared.idle.Idle.{Idle}
@@ -14,7 +14,7 @@ use Rattle.hearing.specs.Hears.{placed_of}
 use Rattle.exchange.specs.declared.run.Run.{Run}
 use Rattle.exchange.specs.declared.run.Exchanged.{Exchanged}
 use Rattle.exchange.specs.declared.run.Exchanged.TheVariants as exchanged
-use Rattle.exchange.specs.Sending.{answers}
+use Rattle.exchange.specs.Sending.{allowed, answers}
 
 module _ {L D : Type 0} (onward back : L → List ℕ → List ℕ) (onward' back' : D → List ℕ → List ℕ) (owed : List ℕ → List ℕ) (good : List ℕ → Bool) (width : ℕ)
     (s : Settings) (near : L) (far : D) (κs : List Lent) where

@@ -5,16 +5,21 @@ use Rattle.octets.specs.Octets.{Octets}
 use Rattle.codes.specs.Rules.{Rule, after}
 use Rattle.frames.specs.declared.answers.Refusal.{Refusal}
 use Rattle.frames.specs.Terms.{Terms}
-use Rattle.frames.specs.Calls.{Frame, allows, octets, refused, Lent, frame_after, written, allowed, line, Typed, Known}
-use Rattle.calls.specs.declared.request.Answer.{Answer}
-use Rattle.calls.specs.declared.request.Answer.TheVariants as answer
-use Rattle.calls.specs.declared.sender.Sender.{Sender}
-use Rattle.calls.specs.Driving.{call_of_request, Stands}
+use Rattle.frames.specs.Calls.{Frame, allows, octets, refused, Lent, frame_after, written, line, Typed, Known}
+use Rattle.link.specs.declared.calls.Answer.{Answer}
+use Rattle.link.specs.declared.calls.Answer.TheVariants as answer
+use Rattle.link.specs.declared.calling.Sender.{Sender}
+use Rattle.link.specs.Driving.{call_of_request, Stands}
 use Rattle.exchange.specs.declared.lent.Lent.{Lent as Given}
 
 -- a call as the definitions have it
 abbrev pub lent_of : Given → Lent
 lent_of g = record { call = call_of_request g.request; room = g.room }
+
+-- of any list the calls that are allowed where they stand; the others alter nothing
+unfoldable pub allowed : Terms → (List ℕ → List ℕ) → Frame → List Lent → List Lent
+allowed σ owed φ [] = []
+allowed σ owed φ (κ ∷ κs) = cond (allows φ κ.call) (κ ∷ allowed σ owed (frame_after σ owed φ κ) κs) (allowed σ owed φ κs)
 
 -- what an answer says was written at the front of a stretch
 abbrev pub front : Answer → List ℕ → List ℕ

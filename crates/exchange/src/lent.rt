@@ -1,4 +1,4 @@
-use calls::Request;
+use link::Request;
 
 // A call with the length of the stretch that it is lent.
 #[derive(Clone, Copy)]

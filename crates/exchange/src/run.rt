@@ -1,6 +1,6 @@
-use calls::Answer;
 use frames::Refusal;
 use hearing::Heard;
+use link::Answer;
 
 // What a run came to: the answers to its calls, the octets on the line, and what the far end reported of them.
 #[derive(Drop)]

@@ -1,12 +1,13 @@
 ghost use Rattle.std.specs.Prelude.{◌≡◌, ◌++◌, map, length, IfOk, OnOk};
+ghost use Rattle.octets.specs.Octets.{Octets};
 ghost use Rattle.frames.specs.Calls.{Typed};
-ghost use Rattle.calls.specs.Driving.{call_of_request};
+ghost use Rattle.link.specs.Driving.{call_of_request};
 ghost use Rattle.exchange.specs.Sending.{lent_of, front, SendsOne, SendsAll};
 
 use crate::lent::Lent;
-use calls::{Answer, Called, Request, Sender};
 use checks::Check;
 use codes::LineCode;
+use link::{Answer, Called, Request, Sender};
 use std::alloc::{AllocError, Global};
 
 // Puts what a call wrote behind the line.
@@ -19,6 +20,21 @@ fn keep_written(line: &mut Vec<u8>, answer: Answer, stretch: &[u8]) -> Result<()
     Ok(())
 }
 
+// A request's arguments are of their types: a fact for the proofs, no code.
+fn well_typed(request: Request<'_>)
+    ensures { Typed (call_of_request request.entry) }
+{
+    if let Request::Add(information) = request {
+        octets(information);
+    }
+}
+
+fn octets(information: &[u8])
+    ensures { Octets information.now }
+{
+    let _ = information.is_empty();
+}
+
 // One call; what it wrote is put behind the line.
 fn send_into<L: LineCode + Drop, K: Check + Drop>(
     sender: Sender<L, K>,
@@ -29,6 +45,7 @@ fn send_into<L: LineCode + Drop, K: Check + Drop>(
     ensures sends { IfOk result (λ c. SendsOne L.LineCode.onward K.Check.owes K.Check.owed (record { call = call_of_request request.entry; room = length stretch.old }) sender line.old.items c.sender line.new.items c.answer) }
     ensures typed { OnOk result (Typed (call_of_request request.entry)) }
 {
+    well_typed(request);
     let called = sender.call(request, stretch);
     keep_written(line, called.answer, stretch)?;
     Ok(called)
