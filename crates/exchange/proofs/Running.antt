@@ -1,28 +1,24 @@
 -- From what each half of a run promises to the whole.
-use Rattle.std.proofs.Common.{◌≡◌, ℕ, Bool, List, [], ◌++◌, map, vec_items, sym, refl, ap, ◌∙◌, subst, ap₂, inl}
-use Rattle.std.specs.List.{AllByRecursion}
+use Rattle.std.proofs.Common.{◌≡◌, ℕ, Bool, List, [], map, vec_items, sym, refl, ap, ◌∙◌, subst, ap₂, inl}
 use Rattle.octets.specs.Octets.{Octets}
 use Rattle.codes.specs.Rules.{Rule, Undoes, Alike}
 use Rattle.checks.specs.Law.{Width, Owes, Tells}
-use Rattle.frames.specs.declared.settings.Settings.{Settings}
 use Rattle.frames.specs.Terms.{Terms}
 use Rattle.frames.specs.Of.{terms}
-use Rattle.frames.specs.Calls.{idle, Lent, line, ledger, Typed}
-use Rattle.frames.specs.Receiving.{Ear, hunting}
-use Rattle.frames.specs.Hearing.{Placed, reports_from, entries}
+use Rattle.frames.specs.Calls.{idle, Lent, line, ledger}
+use Rattle.frames.specs.Receiving.{hunting}
+use Rattle.frames.specs.Hearing.{reports_from, entries}
 use Rattle.frames.proofs.Lines.{line_octets}
 use Rattle.exchange.proofs.Allowed.{allowed_permitted, allowed_typed}
 use Rattle.frames.proofs.Sent.{sent}
 use Rattle.sender.specs.declared.idle.Idle.{Idle}
 use Rattle.receiver.specs.declared.receiver.Receiver.{Receiver}
-use Rattle.receiver.specs.Models.{ear, AlikeEars}
 use Rattle.hearing.proofs.Lines.{same_ear}
-use Rattle.link.specs.declared.calls.Answer.{Answer}
 use Rattle.link.specs.declared.calling.Sender.TheVariants as sender
 use Rattle.hearing.specs.Hears.{placed_of, reports_of}
 use Rattle.exchange.specs.declared.run.Run.{Run}
 use Rattle.exchange.specs.Sending.{allowed, answers, SendsAll}
-use Rattle.exchange.specs.Running.{Runs, RunsNew}
+use Rattle.exchange.specs.Running.{RunsNew}
 
 module _ {L D K : Type 0} (onward back : L → List ℕ → List ℕ) (onward' back' : D → List ℕ → List ℕ) (owes : K → List ℕ → List ℕ) (owed : List ℕ → List ℕ) (passes : K → List ℕ → Bool) (good : List ℕ → Bool) (width : ℕ)
     (sends : (l : L) → Rule (onward l)) (undoes : (l : L) → Undoes (back l) (onward l)) (wide : Width width) (owing : Owes width owed) (tells : Tells width owed good) where

@@ -1,11 +1,11 @@
 -- A late joiner's reports, by their places past the joining.
-use Rattle.std.proofs.Common.{◌≡◌, ℕ, suc, ◌+◌, ◌<◌, ◌≤◌, Bool, true, false, cond, ltb, List, [], ◌∷◌, ◌++◌, length, get_or, take, drop, Some, None, Option, sym, refl, ap, ◌∙◌, ap₂, ⊎_elim, arith, length-append}
+use Rattle.std.proofs.Common.{◌≡◌, ℕ, suc, ◌+◌, ◌<◌, Bool, true, false, cond, ltb, List, [], ◌∷◌, ◌++◌, length, get_or, take, drop, Some, None, Option, sym, refl, ap, ◌∙◌, ap₂, ⊎_elim, arith, length-append}
 use Rattle.std.proofs.lemmas.List.Elements.{filter-append}
 use Rattle.std.proofs.lemmas.List.{map-append, take_at, drop_at, get_or-drop}
 use Rattle.std.proofs.lemmas.Bool.{lt-ltb, le-ltb, cases_lt}
 use Rattle.octets.specs.Octets.{Octets}
 use Rattle.octets.proofs.Joined.{octets_append}
-use Rattle.codes.specs.Rules.{Rule, after, Settles}
+use Rattle.codes.specs.Rules.{Rule, after}
 use Rattle.frames.specs.Terms.{Terms}
 use Rattle.frames.specs.Of.{terms}
 use Rattle.frames.specs.Layout.{flag}

@@ -1,18 +1,18 @@
 -- Feeds of a line, one after the other: what has been reported so far is what the octets heard so far say.
-use Rattle.std.proofs.Common.{◌≡◌, ℕ, suc, ◌+◌, ◌-◌, ◌<◌, ◌≤◌, min, Bool, List, [], ◌∷◌, ◌++◌, map, length, get_or, take, drop, Some, None, Option, sym, refl, ap, ◌∙◌, subst, ap₂, ⊎_elim, arith, w8, Fits, length-drop, length-take, take-add}
+use Rattle.std.proofs.Common.{◌≡◌, ℕ, ◌+◌, ◌-◌, ◌<◌, ◌≤◌, min, Bool, List, [], ◌∷◌, ◌++◌, map, length, get_or, take, drop, Some, None, Option, sym, refl, ap, ◌∙◌, subst, ap₂, ⊎_elim, arith, w8, Fits, length-drop, length-take, take-add}
 use Rattle.std.proofs.lemmas.List.{length-take-le, take-take, take_at, take_all, map-append}
 use Rattle.std.proofs.ByRecursion.{All-from_get_or, All-take, All-drop}
 use Rattle.std.proofs.lemmas.Bool.{cases_lt}
 use Rattle.std.specs.Option.{option_map}
 use Rattle.octets.specs.Octets.{Octets}
 use Rattle.octets.proofs.Joined.{octets_append}
-use Rattle.codes.specs.Rules.{Rule, after, Alike}
+use Rattle.codes.specs.Rules.{Rule, after}
 use Rattle.codes.specs.Remainders.{answer_append, answer_nil, answer_take, after_after}
 use Rattle.frames.specs.declared.answers.Report.{Report}
 use Rattle.frames.specs.Terms.{Terms}
 use Rattle.frames.specs.Of.{terms}
 use Rattle.frames.specs.Calls.{Entry, handed_over, faulty}
-use Rattle.frames.specs.Receiving.{Ear, moved, raised, used, reported, ear_after, report_of, delivered}
+use Rattle.frames.specs.Receiving.{Ear, used, reported, ear_after, report_of, delivered}
 use Rattle.frames.specs.Hearing.{Placed, placed, reports_from, Within}
 use Rattle.frames.proofs.Feeds.{ear_append, reports_append, used_le, used_some, one_feed}
 use Rattle.receiver.specs.declared.receiver.Receiver.{Receiver}

@@ -2,13 +2,12 @@
 // reports of it.
 #![tactic(auto)]
 
-use calls::{Answer, Request};
 use checks::{Check, Fcs16, Fcs32};
 use codes::{LineCode, Mirrored, Pile, Scrambler, Straight};
 use exchange::{Exchanged, Lent, Run, exchange};
 use frames::{Report, Settings};
 use hearing::{Heard, Outcome};
-use link::{Joined, Link, Stepped};
+use link::{Answer, Joined, Link, Request, Stepped};
 use std::io;
 
 // room for the longest that a call here writes, the adaptation apart that is to be refused

@@ -1,4 +1,4 @@
-use Rattle.std.proofs.Common.{◌≡◌, ◌≤◌, map, length, vec_items, sym, refl, ap, ◌∙◌, subst, arith, rules}
+use Rattle.std.proofs.Common.{◌≤◌, map, length, vec_items, sym, refl, ap, ◌∙◌, subst, arith, rules}
 use Rattle.hearing.proofs.Lines.{typed}
 use Rattle.hearing.specs.Hears.{placed_of}
 use Rattle.hearing.proofs.Lines.{Gone, gone_none, gone_more, gone_all, gone_part}
