@@ -2,7 +2,7 @@ ghost use Rattle.std.specs.Prelude.{◌≡◌, ◌^◌, ◌<◌};
 ghost use Rattle.octets.specs.Bits.{low_first};
 ghost use Rattle.checks.specs.Fcs.{fcs16, fcs32, shifted, bits_taken, octets_taken, register_owes, register_good, owed, good};
 ghost use Rattle.checks.specs.Sound.{sound_owes, tells16, tells32};
-ghost use Rattle.std.proofs.Common.{rules};
+ghost use Rattle.std.proofs.Common.{refl, inl, inr};
 
 use crate::owed::CheckOctets;
 use crate::traits::Check;
@@ -43,7 +43,7 @@ impl Check for Fcs16 {
 
     ghost passes = { λ c os. register_good fcs16 (octets_taken fcs16.constant c.register os) };
 
-    ghost widths = { Prim.search rules };
+    ghost widths = { inl refl };
 
     ghost long = { sound_owes fcs16 };
 
@@ -87,7 +87,7 @@ impl Check for Fcs32 {
 
     ghost passes = { λ c os. register_good fcs32 (octets_taken fcs32.constant c.register os) };
 
-    ghost widths = { Prim.search rules };
+    ghost widths = { inr refl };
 
     ghost long = { sound_owes fcs32 };
 

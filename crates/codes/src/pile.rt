@@ -1,7 +1,7 @@
 ghost use Rattle.std.specs.Prelude.{◌+◌};
 ghost use Rattle.codes.specs.Rules.{Settles};
 ghost use Rattle.codes.specs.Piles.{pile_rule, pile_settles};
-ghost use Rattle.std.proofs.Common.{rules};
+ghost use Rattle.std.proofs.Common.{ap, ◌∙◌};
 
 use crate::traits::{LineCode, SettlingCode};
 
@@ -21,7 +21,9 @@ impl<U: LineCode, L: LineCode> LineCode for Pile<U, L> {
 
     ghost receives = { λ c. pile_rule (L.LineCode.back c.lower) (U.LineCode.back c.upper) (L.LineCode.receives c.lower) (U.LineCode.receives c.upper) };
 
-    ghost undoes = { Prim.search rules };
+    ghost undoes = { λ c xs o.
+        ap (U.LineCode.back c.upper) (L.LineCode.undoes c.lower (U.LineCode.onward c.upper xs) ((U.LineCode.sends c.upper).octets xs o))
+        ∙ U.LineCode.undoes c.upper xs o };
 
     fn send(&mut self, octet: u8) -> u8 {
         let between = self.upper.send(octet);

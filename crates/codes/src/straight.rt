@@ -1,6 +1,6 @@
 ghost use Rattle.codes.specs.Rules.{Settles};
 ghost use Rattle.codes.specs.Memoryless.{unaltered_rule, unaltered_after};
-ghost use Rattle.std.proofs.Common.{rules, sym, ◌∙◌};
+ghost use Rattle.std.proofs.Common.{refl, sym, ◌∙◌};
 
 use crate::traits::{LineCode, SettlingCode};
 
@@ -17,7 +17,7 @@ impl LineCode for Straight {
 
     ghost receives = { λ c. unaltered_rule };
 
-    ghost undoes = { Prim.search rules };
+    ghost undoes = { λ c xs o. refl };
 
     fn send(&mut self, octet: u8) -> u8 {
         octet
