@@ -4,7 +4,7 @@ use Rattle.watch.specs.declared.watch.Indication.{Indication}
 use Rattle.watch.specs.declared.watch.Indication.TheVariants.{Quiet, LinkError}
 use Rattle.watch.specs.Watch.{Standing, fresh, heard_again, ticked, says, with_mute}
 
--- what can happen to a watch; a mute lasts from `test-begins` to `test-ends`
+-- what can happen to a watch; a mute lasts from `test_begins` to `test_ends`
 pub data Event : Type 0 where
   tick : Event
   heard : Event
