@@ -1,4 +1,5 @@
-# An independent model of the views: it wrote the cases of crates/views_run and the output expected of them.
+# An independent model of the views: it wrote the cases of crates/views_run and the output expected of them. Run it at the top
+# of the repository, and then `rt fmt` in crates/views_run.
 import zlib, struct
 # ---- an independent model
 def crc(b): return struct.pack('<I', zlib.crc32(b))
@@ -95,24 +96,25 @@ for sapi,b,c in small:
     blocks[k].append((sapi,b,c)); out.append(line(sapi,b))
 prog='''// Views at the ends of every range, and where two refusals apply. What is printed was worked out apart from the views;
 // the check octets of the MAC cases are those of another CRC-32.
-ghost use Prim.Native.Nat.{_≤_};
+#![tactic(auto)]
+
+ghost use Rattle.std.specs.Prelude.{◌≤◌};
+
 use std::io;
-use views::Part;
-use views::View;
-use views::view_of;
+use views::{Part, View, view_of};
 
 fn show_part(rt: &impl Print, part: Part<'_>) -> io::Result<()> {
     let at = part.at;
     let length = part.octets.len();
-    print!(rt, " {at}+{length}")
+    print!(rt; " {at}+{length}")
 }
 
 fn show(rt: &impl Print, sapi: u16, information: &[u8]) -> io::Result<()> {
     let length = information.len();
-    print!(rt, "{sapi:04x} {length}: ")?;
+    print!(rt; "{sapi:04x} {length}: ")?;
     match view_of(sapi, information) {
         Ok(View::Mac(frame)) => {
-            print!(rt, "mac")?;
+            print!(rt; "mac")?;
             show_part(rt, frame.destination)?;
             show_part(rt, frame.source)?;
             show_part(rt, frame.length_or_type)?;
@@ -120,29 +122,29 @@ fn show(rt: &impl Print, sapi: u16, information: &[u8]) -> io::Result<()> {
             show_part(rt, frame.check)?;
         }
         Ok(View::Ipv4(packet)) => {
-            print!(rt, "ipv4")?;
+            print!(rt; "ipv4")?;
             show_part(rt, packet.header)?;
             show_part(rt, packet.options)?;
             show_part(rt, packet.payload)?;
             show_part(rt, packet.rest)?;
         }
         Ok(View::Ipv6(packet)) => {
-            print!(rt, "ipv6")?;
+            print!(rt; "ipv6")?;
             show_part(rt, packet.header)?;
             show_part(rt, packet.payload)?;
             show_part(rt, packet.rest)?;
         }
         Err(refusal) => {
             let number = refusal.number();
-            print!(rt, "{number}")?;
+            print!(rt; "{number}")?;
         }
     }
-    println!(rt, "")
+    println!(rt; "")
 }
 
 // A frame of octets that count up, with these check octets.
 fn mac_case(rt: &impl Print, length: usize, check: [u8; 4]) -> io::Result<()>
-    requires { ⌜ 4 ≤ length ⌝ ∗ ⌜ length ≤ 1519 ⌝ }
+    requires { (4 ≤ length) × (length ≤ 1519) }
 {
     let mut octets = [0u8; 1519];
     let frame = &mut octets[0..length];
@@ -159,8 +161,8 @@ for k in blocks:
     for sapi,b,c in blocks[k]:
         prog+='    // %s\n    show(rt, 0x%04x, %s)?;\n'%(c,sapi,lit(b))
     prog+='    Ok(())\n}\n\n'
-prog+='fn main(rt: LibcRuntime) -> io::Result<()> {\n'+'\n'.join(src)+'\n'
+prog+='fn main(rt: HostRuntime) -> io::Result<()> {\n'+'\n'.join(src)+'\n'
 for k in blocks: prog+='    %s(&rt)?;\n'%k
 prog+='    Ok(())\n}\n'
-open('/work/hB/crates/views_run/src/main.rt','w').write(prog)
-open('/work/hB/crates/views_run/stdout','w').write('\n'.join(out)+'\n')
+open('crates/views_run/src/main.rt','w').write(prog)
+open('crates/views_run/stdout','w').write('\n'.join(out)+'\n')
