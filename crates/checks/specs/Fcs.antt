@@ -1,12 +1,7 @@
 -- The frame check sequences of RFC 1662, appendix C, by their shift register.
 use Rattle.std.specs.Prelude.{ℕ, zero, suc, ◌-◌, ◌*◌, ◌/◌, ◌%◌, ◌^◌, Bool, List, [], ◌∷◌, ◌==◌, bit_xor}
 use Rattle.octets.specs.Bits.{low_first}
-
--- what tells the two sequences apart: how many octets, the constant, and the register that means good
-pub record Sequence : Type 0 where
-  pub width : ℕ
-  pub constant : ℕ
-  pub residue : ℕ
+use Rattle.checks.specs.declared.sequence.Sequence.{Sequence}
 
 abbrev pub fcs16 : Sequence
 fcs16 = record { width = 2; constant = 0x8408; residue = 0xf0b8 }

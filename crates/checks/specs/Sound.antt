@@ -7,19 +7,20 @@ use Rattle.std.proofs.lemmas.Nat.{xor_lt}
 use Rattle.std.proofs.Math.Pow.{ones_lt, ones_sub-lt}
 use Rattle.octets.specs.Octets.{Octets}
 use Rattle.octets.proofs.Halves.{xor_complement, complement_of}
-use Rattle.checks.specs.Fcs.{Sequence, fcs16, fcs32, ones, octets_taken, least_first, owed, good}
+use Rattle.checks.specs.declared.sequence.Sequence.{Sequence}
+use Rattle.checks.specs.Fcs.{fcs16, fcs32, ones, octets_taken, least_first, owed, good}
 use Rattle.checks.specs.Law.{Owes, Tells}
 use Rattle.checks.specs.Shifts.{octet_shifts, value, octets_at_once, octets_after, octets_below, octet_shifts_one}
 
 -- a constant as wide as the register, whose highest bit is 1, and the residue that check octets leave
-record Sound (s : Sequence) : Type 0 where
-  k : ℕ
-  wide : 8 ≤ suc k
-  places : 2 ^ (8 * s.width) ≡ 2 ^ suc k
-  octets : 256 ^ s.width ≡ 2 ^ suc k
-  below : s.constant < 2 ^ suc k
-  top : s.constant / 2 ^ k ≡ 1
-  left : octet_shifts s.constant s.width (ones s) ≡ s.residue
+pub record Sound (s : Sequence) : Type 0 where
+  pub k : ℕ
+  pub wide : 8 ≤ suc k
+  pub places : 2 ^ (8 * s.width) ≡ 2 ^ suc k
+  pub octets : 256 ^ s.width ≡ 2 ^ suc k
+  pub below : s.constant < 2 ^ suc k
+  pub top : s.constant / 2 ^ k ≡ 1
+  pub left : octet_shifts s.constant s.width (ones s) ≡ s.residue
 
 -- ---- octets to a number and back
 
@@ -118,15 +119,18 @@ module _ (s : Sequence) (v : Sound s) where
         full : bit_xor register (value t) ≡ ones s
         full = ap (bit_xor register) tail ∙ xor_complement (suc v.k) register register_below ∙ sym all_ones
 
-  sound_tells : Tells s.width (owed s) (good s)
+  pub sound_tells : Tells s.width (owed s) (good s)
   sound_tells m t om ot lt = (told m t om ot lt, tells m t om ot lt)
 
+-- both are sound
+pub sound16 : Sound fcs16
+sound16 = record { k = 15; wide = lit≤ tt; places = refl; octets = refl; below = lit< tt; top = refl; left = refl }
+
+pub sound32 : Sound fcs32
+sound32 = record { k = 31; wide = lit≤ tt; places = refl; octets = refl; below = lit< tt; top = refl; left = refl }
+
 pub tells16 : Tells fcs16.width (owed fcs16) (good fcs16)
-tells16 =
-    sound_tells fcs16
-    (record { k = 15; wide = lit≤ tt; places = refl; octets = refl; below = lit< tt; top = refl; left = refl })
+tells16 = sound_tells fcs16 sound16
 
 pub tells32 : Tells fcs32.width (owed fcs32) (good fcs32)
-tells32 =
-    sound_tells fcs32
-    (record { k = 31; wide = lit≤ tt; places = refl; octets = refl; below = lit< tt; top = refl; left = refl })
+tells32 = sound_tells fcs32 sound32

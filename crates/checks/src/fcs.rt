@@ -1,11 +1,13 @@
-ghost use Rattle.std.specs.Prelude.{◌≡◌, ◌^◌, ◌<◌};
+ghost use Rattle.std.specs.Prelude.{◌≡◌, ⊤, ℕ, ◌*◌, ◌^◌, ◌<◌, ◌≤◌};
 ghost use Rattle.octets.specs.Bits.{low_first};
-ghost use Rattle.checks.specs.Fcs.{fcs16, fcs32, shifted, bits_taken, octets_taken, register_owes, register_good, owed, good};
-ghost use Rattle.checks.specs.Sound.{sound_owes, tells16, tells32};
-ghost use Rattle.std.proofs.Common.{refl, inl, inr};
+ghost use Rattle.checks.specs.Fcs.{shifted, bits_taken, octets_taken, register_owes, register_good, owed, good};
+ghost use Rattle.checks.specs.Sound.{sound_owes, sound_tells};
 
 use crate::owed::CheckOctets;
+use crate::sequence::{Bits16, Bits32, Kind};
 use crate::traits::Check;
+use std::alloc::AllocError;
+use std::marker::PhantomData;
 
 // One place on: a 1 that falls out brings the constant in.
 fn shift(constant: u32, register: u32) -> u32
@@ -17,101 +19,79 @@ fn shift(constant: u32, register: u32) -> u32
 // An octet taken in at once: exclusive-ored into the register, which then moves eight places.
 fn octet_taken(constant: u32, register: u32, octet: u8) -> u32
     ensures taken { result ≡ bits_taken constant register (low_first octet) }
-    ensures narrow { constant < 2 ^ 16 → register < 2 ^ 16 → result < 2 ^ 16 }
+    ensures narrow { (k : ℕ) → 8 ≤ k → constant < 2 ^ k → register < 2 ^ k → result < 2 ^ k }
 {
     let mut moved = register ^ u32::from(octet);
-    for _ in 0..8u32 {
+    for _ in 0..u8::BITS {
         moved = shift(constant, moved);
     }
     moved
 }
 
+// A frame check sequence of RFC 1662.
+#[derive_where(Debug, PartialEq, Eq)]
+pub struct Fcs<S: Kind> {
+    register: u32,
+    kind: PhantomData<S>,
+    ghost narrow: { register < 2 ^ (8 * S.SEQUENCE.width) },
+}
+
 // The 16-bit frame check sequence.
-#[derive(Clone, Copy)]
-pub struct Fcs16 {
-    register: u16,
-}
-
-impl Check for Fcs16 {
-    ghost width = { fcs16.width };
-
-    ghost owed = { owed fcs16 };
-
-    ghost good = { good fcs16 };
-
-    ghost owes = { λ c os. register_owes fcs16 (octets_taken fcs16.constant c.register os) };
-
-    ghost passes = { λ c os. register_good fcs16 (octets_taken fcs16.constant c.register os) };
-
-    ghost widths = { inl refl };
-
-    ghost long = { sound_owes fcs16 };
-
-    ghost tells = { tells16 };
-
-    fn octet_count() -> usize {
-        (u16::BITS / 8) as usize
-    }
-
-    fn start() -> Fcs16 {
-        Fcs16 { register: 0xffff }
-    }
-
-    fn take_in(&mut self, octet: u8) {
-        self.register = octet_taken(0x8408, u32::from(self.register), octet) as u16;
-    }
-
-    fn octets(&self) -> CheckOctets {
-        CheckOctets::of_u16(!self.register)
-    }
-
-    fn is_good(&self) -> bool {
-        self.register == 0xf0b8
-    }
-}
+pub type Fcs16 = Fcs<Bits16>;
 
 // The 32-bit frame check sequence.
-#[derive(Clone, Copy)]
-pub struct Fcs32 {
-    register: u32,
+pub type Fcs32 = Fcs<Bits32>;
+
+// by hand, since a derive does not reach a generic struct with a ghost field
+impl<S: Kind> Clone for Fcs<S> {
+    ghost is_clone = { λ c d. d ≡ c };
+
+    ghost is_infallible = { λ _. ⊤ };
+
+    fn clone(&self) -> Result<Fcs<S>, AllocError> {
+        Ok(*self)
+    }
 }
 
-impl Check for Fcs32 {
-    ghost width = { fcs32.width };
+impl<S: Kind> Copy for Fcs<S> {}
 
-    ghost owed = { owed fcs32 };
+impl<S: Kind> Check for Fcs<S> {
+    ghost width = { S.SEQUENCE.width };
 
-    ghost good = { good fcs32 };
+    ghost owed = { owed S.SEQUENCE };
 
-    ghost owes = { λ c os. register_owes fcs32 (octets_taken fcs32.constant c.register os) };
+    ghost good = { good S.SEQUENCE };
 
-    ghost passes = { λ c os. register_good fcs32 (octets_taken fcs32.constant c.register os) };
+    ghost owes = { λ c os. register_owes S.SEQUENCE (octets_taken S.SEQUENCE.constant c.register os) };
 
-    ghost widths = { inr refl };
+    ghost passes = { λ c os. register_good S.SEQUENCE (octets_taken S.SEQUENCE.constant c.register os) };
 
-    ghost long = { sound_owes fcs32 };
+    ghost widths = { S.Kind.widths };
 
-    ghost tells = { tells32 };
+    ghost long = { sound_owes S.SEQUENCE };
+
+    ghost tells = { sound_tells S.SEQUENCE S.sound };
 
     fn octet_count() -> usize {
-        (u32::BITS / 8) as usize
+        S::SEQUENCE.width
     }
 
-    fn start() -> Fcs32 {
-        Fcs32 {
-            register: 0xffff_ffff,
+    fn start() -> Fcs<S> {
+        Fcs {
+            register: S::START,
+            kind: PhantomData,
         }
     }
 
     fn take_in(&mut self, octet: u8) {
-        self.register = octet_taken(0xedb8_8320, self.register, octet);
+        self.register = octet_taken(S::SEQUENCE.constant, self.register, octet);
     }
 
     fn octets(&self) -> CheckOctets {
-        CheckOctets::of_u32(!self.register)
+        CheckOctets::of_number(S::START - self.register, S::SEQUENCE.width)
     }
 
     fn is_good(&self) -> bool {
-        self.register == 0xdebb_20e3
+        self.register == S::SEQUENCE.residue
     }
 }

@@ -4,6 +4,7 @@
 mod fcs;
 mod owed;
 mod published;
+mod sequence;
 mod traits;
 
 pub use fcs::{Fcs16, Fcs32};

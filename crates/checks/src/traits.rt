@@ -47,10 +47,8 @@ pub fn take_in_all<K: Check>(check: &mut K, octets: &[u8])
     ensures owes { (os : List ℕ) → K.Check.owes check.new os ≡ K.Check.owes check.old (octets.now ++ os) }
     ensures passes { (os : List ℕ) → K.Check.passes check.new os ≡ K.Check.passes check.old (octets.now ++ os) }
 {
-    let mut rest = octets;
-    while let Some((octet, further)) = rest.split_first() {
+    for octet in octets {
         check.take_in(*octet);
-        rest = further;
     }
 }
 

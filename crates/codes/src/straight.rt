@@ -1,11 +1,11 @@
-ghost use Rattle.codes.specs.Rules.{Settles};
 ghost use Rattle.codes.specs.Memoryless.{unaltered_rule, unaltered_after};
 ghost use Rattle.std.proofs.Common.{refl, sym, ◌∙◌};
 
 use crate::traits::{LineCode, SettlingCode};
 
-// The line code that alters nothing.
-#[derive(Clone, Copy)]
+// The line code that alters nothing. It is told over the whole list, and `Mirrored` octet by octet; as one generic type neither
+// would be the unit value that it is.
+#[derive(Clone, Copy, Debug, PartialEq, Eq)]
 pub struct Straight;
 
 impl LineCode for Straight {
@@ -28,18 +28,12 @@ impl LineCode for Straight {
     }
 }
 
-// Each octet is answered by itself. A theorem: there is nothing to do.
-fn nothing_to_settle()
-    ensures { Settles 0 (λ (c : Straight) octets. octets) }
-{}
-
 impl SettlingCode for Straight {
     ghost settling = { 0 };
 
     ghost settled = { λ c d heard heard' further h h' f. unaltered_after heard further ∙ sym (unaltered_after heard' further) };
 
     fn settling_length() -> u32 {
-        nothing_to_settle();
         0
     }
 }

@@ -13,7 +13,7 @@ use Rattle.exchange.proofs.Allowed.{allowed_permitted, allowed_typed}
 use Rattle.frames.proofs.Sent.{sent}
 use Rattle.sender.specs.declared.idle.Idle.{Idle}
 use Rattle.receiver.specs.declared.receiver.Receiver.{Receiver}
-use Rattle.hearing.proofs.Lines.{same_ear}
+use Rattle.receiver.proofs.Ears.{same_ear}
 use Rattle.link.specs.declared.calling.Sender.TheVariants as sender
 use Rattle.hearing.specs.Hears.{placed_of, reports_of}
 use Rattle.exchange.specs.declared.run.Run.{Run}

@@ -1,5 +1,5 @@
 -- A sender through a list of calls: from what each call drives it to.
-use Rattle.std.proofs.Common.{◌≡◌, ℕ, Bool, true, false, cond, List, [], ◌∷◌, ◌++◌, length, take, drop, Some, None, Option, sym, refl, ap, ◌∙◌, subst, ap₂}
+use Rattle.std.proofs.Common.{◌≡◌, ℕ, Bool, true, false, cond, List, [], ◌∷◌, ◌++◌, length, take, drop, Some, None, Err, Option, sym, refl, ap, ◌∙◌, subst, ap₂}
 use Rattle.std.proofs.lemmas.List.{take_at, append-nil, append_assoc}
 use Rattle.std.specs.List.{AllByRecursion}
 use Rattle.octets.specs.Octets.{Octets}
@@ -11,21 +11,23 @@ use Rattle.frames.specs.Terms.{Terms}
 use Rattle.frames.specs.Calls.{Frame, allows, octets, next, refused, if_taken, Lent, frame_after, written, line, Typed, Known}
 use Rattle.frames.proofs.Lines.{call_octets, next_known, line_octets}
 use Rattle.exchange.proofs.Allowed.{allowed_typed}
-use Rattle.link.specs.declared.calls.Answer.{Answer}
-use Rattle.link.specs.declared.calls.Answer.TheVariants as answer
+use Rattle.link.specs.declared.answer.TurnedDown.TheVariants.{Refused, NotAllowed}
+use Rattle.link.specs.Answering.{Answer}
 use Rattle.link.specs.declared.calling.Sender.{Sender}
 use Rattle.link.specs.Driving.{Stands, Driven, IfAllowed, CallsOn}
-use Rattle.exchange.specs.Sending.{allowed, front, answered, answer_at, frame_at, written_at, answers, SendsOne, SendsAll}
+use Rattle.exchange.specs.Sending.{allowed, written_front, answered, answer_at, frame_at, written_at, answers, SendsOne, SendsAll}
 
 module _ {L K : Type 0} (onward : L → List ℕ → List ℕ) (owes : K → List ℕ → List ℕ) (owed : List ℕ → List ℕ) (fits : (m : List ℕ) → Octets m → Octets (owed m)) where
   -- nothing more is sent
   none_more : (start : List ℕ → List ℕ) → Rule start → (sent : List ℕ) → Octets sent → after start sent [] ≡ []
   none_more start rule sent o = answer_nil (after start sent) (after_rule start rule sent o)
 
-  module _ (κ : Lent) (t : Typed κ.call) (s s' : Sender L K) (stretch stretch' text text' : List ℕ) (room : length stretch ≡ κ.room) (a : Answer)
-      (called : CallsOn onward owes owed κ.call s stretch s' stretch' a) (kept : text' ≡ text ++ front a stretch') where
-    pub sends_one : SendsOne onward owes owed κ s text s' text' a
-    sends_one start rule σ φ sent o known stands = go (allows φ κ.call) (called start σ φ sent known stands)
+  module _ (κ : Lent) (t : Typed κ.call) (s s' : Sender L K) (stretch stretch' text text' : List ℕ) (past past' : List Answer) (room : length stretch ≡ κ.room) (a : Answer)
+      (called : CallsOn onward owes owed κ.call s stretch s' stretch' a) (kept : text' ≡ text ++ written_front a stretch') (pushed : past' ≡ past ++ a ∷ []) where
+    pub sends_one : SendsOne onward owes owed κ s text past s' text' past'
+    sends_one start rule σ φ sent o known stands =
+        let so = go (allows φ κ.call) (called start σ φ sent known stands) in
+        (pushed ∙ ap (λ b. past ++ b ∷ []) so.0, so.1, so.2)
       where
         os : List ℕ
         os = octets owed φ κ.call
@@ -34,10 +36,10 @@ module _ {L K : Type 0} (onward : L → List ℕ → List ℕ) (owes : K → Lis
         Goal b ψ more = (a ≡ b) × (text' ≡ text ++ after start sent more) × Stands onward owes owed start σ ψ (sent ++ more) s'
 
         -- nothing was written
-        same : (b : Answer) → a ≡ b → front b stretch' ≡ [] → s' ≡ s → Goal b φ []
+        same : (b : Answer) → a ≡ b → written_front b stretch' ≡ [] → s' ≡ s → Goal b φ []
         same b e f h = (
           e,
-          kept ∙ ap (λ l. text ++ l) (ap (λ x. front x stretch') e ∙ f ∙ sym (none_more start rule sent o)),
+          kept ∙ ap (λ l. text ++ l) (ap (λ x. written_front x stretch') e ∙ f ∙ sym (none_more start rule sent o)),
           subst (λ l. Stands onward owes owed start σ φ l s') (sym (append-nil sent)) (subst (Stands onward owes owed start σ φ sent) (sym h) stands),
         )
 
@@ -45,15 +47,15 @@ module _ {L K : Type 0} (onward : L → List ℕ → List ℕ) (owes : K → Lis
             → Goal (answered v os) (if_taken v (next φ κ.call) φ) (if_taken v os [])
         taken None d =
             let long : length (after start sent os) ≡ length os = (after_rule start rule sent o).long os (call_octets owed fits φ κ.call known t) in
-            let wrote : front a stretch' ≡ after start sent os
-            = ap (λ x. front x stretch') d.0 ∙ ap (take (length os)) d.1 ∙ take_at (after start sent os) (drop (length os) stretch) (length os) long in
+            let wrote : written_front a stretch' ≡ after start sent os
+            = ap (λ x. written_front x stretch') d.0 ∙ ap (take (length os)) d.1 ∙ take_at (after start sent os) (drop (length os) stretch) (length os) long in
             (d.0, kept ∙ ap (λ l. text ++ l) wrote, d.2)
-        taken (Some r) d = same (answer.Refused r) d.0 refl d.2
+        taken (Some r) d = same (Err (Refused r)) d.0 refl d.2
 
         go : (b : Bool) → IfAllowed onward owes owed b start σ φ sent κ.call s stretch s' stretch' a
-            → Goal (cond b (answered (refused σ owed φ κ.call κ.room) os) answer.NotAllowed) (cond b (frame_after σ owed φ κ) φ) (cond b (written σ owed φ κ) [])
+            → Goal (cond b (answered (refused σ owed φ κ.call κ.room) os) (Err NotAllowed)) (cond b (frame_after σ owed φ κ) φ) (cond b (written σ owed φ κ) [])
         go true d = subst (λ n. Goal (answered (refused σ owed φ κ.call n) os) (if_taken (refused σ owed φ κ.call n) (next φ κ.call) φ) (if_taken (refused σ owed φ κ.call n) os [])) room (taken (refused σ owed φ κ.call (length stretch)) d)
-        go false d = same answer.NotAllowed d.0 refl d.2
+        go false d = same (Err NotAllowed) d.0 refl d.2
 
   -- the octets that a call writes at a frame, and the frame behind it
   module _ (σ : Terms) where
@@ -113,11 +115,11 @@ module _ {L K : Type 0} (onward : L → List ℕ → List ℕ) (owes : K → Lis
     pub progress_none : Progress κs₀ s₀ text₀ past₀
     progress_none = (λ t. t, λ start rule σ φ sent o k st. (φ, sent, o, k, st, refl, refl))
 
-    pub progress_more : (κ : Lent) (κs : List Lent) (s s' : Sender L K) (text text' : List ℕ) (past past' : List Answer) (a : Answer)
-        → Typed κ.call → SendsOne onward owes owed κ s text s' text' a → past' ≡ past ++ a ∷ []
+    pub progress_more : (κ : Lent) (κs : List Lent) (s s' : Sender L K) (text text' : List ℕ) (past past' : List Answer)
+        → Typed κ.call → SendsOne onward owes owed κ s text past s' text' past'
         → Progress (κ ∷ κs) s text past → Progress κs s' text' past'
     unfolding coded answers
-    progress_more κ κs s s' text text' past past' a t one pushed p = (
+    progress_more κ κs s s' text text' past past' t one p = (
       λ ts. p.0 (t, ts),
       λ start rule σ φ₀ sent₀ o₀ k₀ st₀.
           let so = p.1 start rule σ φ₀ sent₀ o₀ k₀ st₀ in
@@ -132,7 +134,7 @@ module _ {L K : Type 0} (onward : L → List ℕ → List ℕ) (owes : K → Lis
             x.2,
             so.5
                 ∙ sym (append_assoc past (answer_at σ owed φ κ ∷ []) (answers σ owed (frame_at σ owed φ κ) κs))
-                ∙ ap (λ l. l ++ answers σ owed (frame_at σ owed φ κ) κs) (ap (λ b. past ++ b ∷ []) (sym x.0) ∙ sym pushed),
+                ∙ ap (λ l. l ++ answers σ owed (frame_at σ owed φ κ) κs) (sym x.0),
             so.6
                 ∙ sym (append_assoc text (after start sent w) (coded start rule σ (frame_at σ owed φ κ) (sent ++ w) κs))
                 ∙ ap (λ l. l ++ coded start rule σ (frame_at σ owed φ κ) (sent ++ w) κs) (sym x.1),

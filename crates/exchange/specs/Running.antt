@@ -1,5 +1,5 @@
 -- A whole run over two new ends: the calls are made at the one, and the other hears the line to its end.
-use Rattle.std.specs.Prelude.{◌≡◌, ℕ, Bool, List, map, vec_items, ◌≢◌}
+use Rattle.std.specs.Prelude.{◌≡◌, ℕ, Bool, List, map, Ok, Err, vec_items, Result, ◌≢◌}
 use Rattle.codes.specs.Rules.{Alike}
 use Rattle.frames.specs.declared.answers.Refusal.TheVariants as refusal
 use Rattle.frames.specs.declared.settings.Settings.{Settings}
@@ -12,8 +12,8 @@ use Rattle.receiver.specs.declared.receiver.Receiver.{Receiver}
 use Rattle.receiver.specs.Models.{ear, AlikeEars}
 use Rattle.hearing.specs.Hears.{placed_of}
 use Rattle.exchange.specs.declared.run.Run.{Run}
-use Rattle.exchange.specs.declared.run.Exchanged.{Exchanged}
-use Rattle.exchange.specs.declared.run.Exchanged.TheVariants as exchanged
+use Rattle.exchange.specs.declared.run.RunError.{RunError}
+use Rattle.exchange.specs.declared.run.RunError.TheVariants.{Refused, OutOfMemory}
 use Rattle.exchange.specs.Sending.{allowed, answers}
 
 module _ {L D : Type 0} (onward back : L → List ℕ → List ℕ) (onward' back' : D → List ℕ → List ℕ) (owed : List ℕ → List ℕ) (good : List ℕ → Bool) (width : ℕ)
@@ -30,13 +30,14 @@ module _ {L D : Type 0} (onward back : L → List ℕ → List ℕ) (onward' bac
         → entries (map placed_of (vec_items run.reports)) ≡ ledger (terms s) owed idle (allowed (terms s) owed idle κs)
 
   -- settings with another count of check octets than the check are refused
-  abbrev pub Exchanges : Exchanged → Type 0
-  Exchanges (exchanged.Run run) = Runs run
-  Exchanges (exchanged.Refused r) = ((terms s).width ≢ width) × (r ≡ refusal.Settings)
+  abbrev pub Exchanges : Result Run RunError → Type 0
+  Exchanges (Ok run) = Runs run
+  Exchanges (Err (Refused r)) = ((terms s).width ≢ width) × (r ≡ refusal.Settings)
+  Exchanges (Err (OutOfMemory wanting)) = Unit {0}
 
 -- a run over ends that were just made with these settings and line codes
 abbrev pub RunsNew : {L D K : Type 0} → (L → List ℕ → List ℕ) → (L → List ℕ → List ℕ) → (D → List ℕ → List ℕ) → (D → List ℕ → List ℕ) → (List ℕ → List ℕ) → (K → List ℕ → Bool) → (List ℕ → Bool) → ℕ → Idle L K → Receiver D K → List Lent → Run → Type 0
 RunsNew {L} {D} onward back onward' back' owed passes good width s r κs run =
     (set : Settings) (near : L) (far : D) → (terms set).width ≡ width → s.settings ≡ set → s.line ≡ near
-    → r.line ≡ far → r.ear.settings ≡ set → AlikeEars (ear passes r.ear) (hunting good)
+    → r.line ≡ far → r.settings ≡ set → AlikeEars (ear passes r.ear) (hunting good)
     → Runs onward back onward' back' owed good width set near far κs run

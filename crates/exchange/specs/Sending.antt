@@ -1,20 +1,21 @@
 -- What a sender makes of a whole list of calls, those that it does not allow included.
-use Rattle.std.specs.Prelude.{◌≡◌, ℕ, cond, List, [], ◌∷◌, ◌++◌, length, take, Some, None, Option}
+use Rattle.std.specs.Prelude.{◌≡◌, ℕ, cond, List, [], ◌∷◌, ◌++◌, length, take, Some, None, Ok, Err, Option}
 use Rattle.std.specs.List.{AllByRecursion}
 use Rattle.octets.specs.Octets.{Octets}
 use Rattle.codes.specs.Rules.{Rule, after}
 use Rattle.frames.specs.declared.answers.Refusal.{Refusal}
 use Rattle.frames.specs.Terms.{Terms}
 use Rattle.frames.specs.Calls.{Frame, allows, octets, refused, Lent, frame_after, written, line, Typed, Known}
-use Rattle.link.specs.declared.calls.Answer.{Answer}
-use Rattle.link.specs.declared.calls.Answer.TheVariants as answer
+use Rattle.link.specs.declared.answer.TurnedDown.TheVariants.{Refused, NotAllowed}
+use Rattle.link.specs.Answering.{Answer}
 use Rattle.link.specs.declared.calling.Sender.{Sender}
-use Rattle.link.specs.Driving.{call_of_request, Stands}
+use Rattle.frames.specs.Of.{lent_call}
+use Rattle.link.specs.Driving.{Stands}
 use Rattle.exchange.specs.declared.lent.Lent.{Lent as Given}
 
 -- a call as the definitions have it
 abbrev pub lent_of : Given → Lent
-lent_of g = record { call = call_of_request g.request; room = g.room }
+lent_of g = record { call = lent_call g.request; room = g.room }
 
 -- of any list the calls that are allowed where they stand; the others alter nothing
 unfoldable pub allowed : Terms → (List ℕ → List ℕ) → Frame → List Lent → List Lent
@@ -22,19 +23,18 @@ allowed σ owed φ [] = []
 allowed σ owed φ (κ ∷ κs) = cond (allows φ κ.call) (κ ∷ allowed σ owed (frame_after σ owed φ κ) κs) (allowed σ owed φ κs)
 
 -- what an answer says was written at the front of a stretch
-abbrev pub front : Answer → List ℕ → List ℕ
-front (answer.Written n) stretch = take n stretch
-front (answer.Refused r) stretch = []
-front answer.NotAllowed stretch = []
+abbrev pub written_front : Answer → List ℕ → List ℕ
+written_front (Ok n) stretch = take n stretch
+written_front (Err t) stretch = []
 
 abbrev pub answered : Option Refusal → List ℕ → Answer
-answered None os = answer.Written (length os)
-answered (Some r) os = answer.Refused r
+answered None os = Ok (length os)
+answered (Some r) os = Err (Refused r)
 
 -- at a frame a call is answered as the table of refusals says, or is not allowed
 module _ (σ : Terms) (owed : List ℕ → List ℕ) where
   abbrev pub answer_at : Frame → Lent → Answer
-  answer_at φ κ = cond (allows φ κ.call) (answered (refused σ owed φ κ.call κ.room) (octets owed φ κ.call)) answer.NotAllowed
+  answer_at φ κ = cond (allows φ κ.call) (answered (refused σ owed φ κ.call κ.room) (octets owed φ κ.call)) (Err NotAllowed)
 
   abbrev pub frame_at : Frame → Lent → Frame
   frame_at φ κ = cond (allows φ κ.call) (frame_after σ owed φ κ) φ
@@ -48,10 +48,10 @@ module _ (σ : Terms) (owed : List ℕ → List ℕ) where
 
 module _ {L K : Type 0} (onward : L → List ℕ → List ℕ) (owes : K → List ℕ → List ℕ) (owed : List ℕ → List ℕ) where
   -- one call, wherever the sender stands: its answer, what is put behind the line, and where the sender then stands
-  abbrev pub SendsOne : Lent → Sender L K → List ℕ → Sender L K → List ℕ → Answer → Type 0
-  SendsOne κ s text s' text' a =
+  abbrev pub SendsOne : Lent → Sender L K → List ℕ → List Answer → Sender L K → List ℕ → List Answer → Type 0
+  SendsOne κ s text past s' text' past' =
       (start : List ℕ → List ℕ) → Rule start → (σ : Terms) (φ : Frame) (sent : List ℕ) → Octets sent → Known φ → Stands onward owes owed start σ φ sent s
-      → (a ≡ answer_at σ owed φ κ) × (text' ≡ text ++ after start sent (written_at σ owed φ κ))
+      → (past' ≡ past ++ answer_at σ owed φ κ ∷ []) × (text' ≡ text ++ after start sent (written_at σ owed φ κ))
       × Stands onward owes owed start σ (frame_at σ owed φ κ) (sent ++ written_at σ owed φ κ) s'
 
   -- a list of calls: their answers, and on the line what the calls write that are allowed where they stand

@@ -1,8 +1,8 @@
-use link::Request;
+use frames::Request;
 
 // A call with the length of the stretch that it is lent.
 #[derive(Clone, Copy)]
 pub struct Lent<'a> {
-    pub request: Request<'a>,
+    pub request: Request<&'a [u8]>,
     pub room: usize,
 }

@@ -7,5 +7,5 @@ mod sent;
 mod whole;
 
 pub use lent::Lent;
-pub use run::{Exchanged, Run};
+pub use run::{Run, RunError};
 pub use whole::exchange;

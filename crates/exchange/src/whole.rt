@@ -3,8 +3,8 @@ ghost use Rattle.exchange.specs.Running.{RunsNew, Exchanges};
 ghost use Rattle.exchange.specs.Sending.{lent_of};
 
 use crate::lent::Lent;
-use crate::run::{Exchanged, Run};
-use crate::sent::send_all;
+use crate::run::{Run, RunError};
+use crate::sent::Sending;
 use checks::Check;
 use codes::LineCode;
 use frames::Settings;
@@ -18,16 +18,22 @@ use std::alloc::{AllocError, Global};
 fn run_over<L: LineCode + Drop, D: LineCode + Drop, K: Check + Drop>(
     heap: Global,
     idle: Idle<L, K>,
-    receiver: Receiver<D, K>,
+    mut receiver: Receiver<D, K>,
     calls: &[Lent<'_>],
     cuts: &[usize],
 ) -> Result<Run, AllocError>
     ensures { IfOk result (λ run. RunsNew L.LineCode.onward L.LineCode.back D.LineCode.onward D.LineCode.back K.Check.owed K.Check.passes K.Check.good K.Check.width idle receiver (map lent_of calls.now) run) }
 {
-    let mut receiver = receiver;
-    let mut answers = Vec::new(heap);
-    let mut line = Vec::new(heap);
-    send_all(heap, Sender::Idle(idle), calls, &mut line, &mut answers)?;
+    let begun = Sending {
+        sender: Sender::Idle(idle),
+        line: Vec::new(heap),
+        answers: Vec::new(heap),
+    };
+    let Sending {
+        sender: _,
+        line,
+        answers,
+    } = begun.send_all(heap, calls)?;
     let reports = hear(heap, &mut receiver, line.as_slice(), cuts)?;
     Ok(Run {
         answers,
@@ -45,17 +51,11 @@ pub fn exchange<L: LineCode + Drop, D: LineCode + Drop, K: Check + Drop>(
     far: D,
     calls: &[Lent<'_>],
     cuts: &[usize],
-) -> Result<Exchanged, AllocError>
-    ensures { IfOk result (λ x. Exchanges L.LineCode.onward L.LineCode.back D.LineCode.onward D.LineCode.back K.Check.owed K.Check.good K.Check.width settings near far (map lent_of calls.now) x) }
+) -> Result<Run, RunError>
+    ensures { Exchanges L.LineCode.onward L.LineCode.back D.LineCode.onward D.LineCode.back K.Check.owed K.Check.good K.Check.width settings near far (map lent_of calls.now) result }
 {
-    match Idle::<L, K>::new(settings, near) {
-        sender::Made::Refused(_, refusal) => Ok(Exchanged::Refused(refusal)),
-        sender::Made::Idle(idle) => match Receiver::<D, K>::new(settings, far) {
-            receiver::Made::Refused(_, refusal) => Ok(Exchanged::Refused(refusal)),
-            receiver::Made::Receiver(receiver) => {
-                let run = run_over(heap, idle, receiver, calls, cuts)?;
-                Ok(Exchanged::Run(run))
-            }
-        },
-    }
+    let idle = Idle::<L, K>::new(settings, near)?;
+    let receiver = Receiver::<D, K>::new(settings, far)?;
+    let run = run_over(heap, idle, receiver, calls, cuts)?;
+    Ok(run)
 }

@@ -6,7 +6,8 @@ use Rattle.octets.specs.Octets.{Octets}
 use Rattle.octets.proofs.Joined.{octets_append}
 use Rattle.frames.specs.declared.answers.Refusal.{Refusal}
 use Rattle.frames.specs.Terms.{Terms}
-use Rattle.frames.specs.Layout.{flag, escape, header, stuffed, stuff, adaptations, complemented}
+use Rattle.checks.specs.Written.{complemented}
+use Rattle.frames.specs.Layout.{flag, escape, header, stuffed, stuff, adaptations}
 use Rattle.frames.specs.Calls.{Call, opening, adding, adapting, filling, closing, aborting, spoiling, Frame, idle, opened, covered, octets, next, refused, Lent, if_taken, frame_after, written, line, Typed, Known}
 
 pub stuffed_octets : (x : ℕ) → x < 256 → Octets (stuffed x)

@@ -5,7 +5,8 @@ use Rattle.std.proofs.lemmas.Bool.{true≢false}
 use Rattle.std.specs.Option.{option_to_list}
 use Rattle.checks.specs.Law.{Width, Owes, Tells}
 use Rattle.frames.specs.Terms.{Terms}
-use Rattle.frames.specs.Layout.{flag, escape, stuff, complemented}
+use Rattle.checks.specs.Written.{complemented}
+use Rattle.frames.specs.Layout.{flag, escape, stuff}
 use Rattle.frames.specs.Calls.{Call, opening, adding, adapting, filling, closing, aborting, spoiling, Frame, idle, opened, allows, covered, octets, next, refused, Entry, entered, Typed}
 use Rattle.frames.specs.Receiving.{Ear, moved, raised, used, reported, ear_after}
 use Rattle.frames.specs.Following.{Follows}

@@ -11,7 +11,8 @@ use Rattle.std.specs.List.{AllByRecursion}
 use Rattle.frames.specs.declared.answers.Fault.TheVariants as fault
 use Rattle.frames.specs.declared.answers.Refusal.{Refusal}
 use Rattle.frames.specs.Terms.{Terms, serves, limit}
-use Rattle.frames.specs.Layout.{flag, header, stuff, complemented, closing_octets}
+use Rattle.checks.specs.Written.{complemented}
+use Rattle.frames.specs.Layout.{flag, header, stuff, closing_octets}
 use Rattle.frames.specs.Calls.{Call, opening, adding, adapting, filling, closing, aborting, spoiling, Frame, idle, opened, allows, octets, next, refused, handed_over, faulty, entered, Lent, if_taken, frame_after, written, noted, Permitted, line, ledger, Typed}
 use Rattle.frames.specs.Receiving.{Ear, begun, hunting, ear_after, judgement}
 use Rattle.frames.specs.Pieces.{Reads}

@@ -1,6 +1,7 @@
 -- A frame's octets before line coding, by X.85 and, for escapes and rate adaptation, X.86.
-use Rattle.std.specs.Prelude.{ℕ, zero, suc, ◌-◌, ◌/◌, ◌%◌, cond, List, [], ◌∷◌, ◌++◌, map, replicate, ◌==◌}
+use Rattle.std.specs.Prelude.{ℕ, zero, suc, ◌/◌, ◌%◌, cond, List, [], ◌∷◌, ◌++◌, replicate, ◌==◌}
 use Rattle.std.specs.List.{flat_map}
+use Rattle.checks.specs.Written.{complemented}
 
 abbrev pub flag : ℕ
 flag = 0x7e
@@ -23,9 +24,6 @@ stuff = flat_map stuffed
 unfoldable pub adaptations : ℕ → List ℕ
 adaptations zero = []
 adaptations (suc k) = escape ∷ 0xdd ∷ adaptations k
-
-abbrev pub complemented : List ℕ → List ℕ
-complemented = map (λ o. 255 - o)
 
 -- the octets of each call
 abbrev pub opening_octets : ℕ → List ℕ

@@ -1,9 +1,9 @@
 -- What a receiver makes of the octets that its line code gives back, octet by octet.
-use Rattle.std.specs.Prelude.{ℕ, suc, ◌+◌, ◌-◌, ◌*◌, Bool, cond, not, List, [], ◌∷◌, ◌++◌, length, take, drop, Some, None, Option, ◌==◌, nat_lt, slice_index}
+use Rattle.std.specs.Prelude.{ℕ, suc, ◌+◌, ◌-◌, ◌*◌, Bool, cond, not, List, [], ◌∷◌, ◌++◌, length, take, drop, Some, None, Ok, Err, Option, Result, ◌==◌, nat_lt, slice_index}
 use Rattle.frames.specs.declared.answers.Fault.{Fault}
 use Rattle.frames.specs.declared.answers.Fault.TheVariants as fault
-use Rattle.frames.specs.declared.answers.Report.{Report}
-use Rattle.frames.specs.declared.answers.Report.TheVariants.{Delivered, Faulty}
+use Rattle.frames.specs.declared.answers.Delivered.{Delivered}
+use Rattle.frames.specs.declared.answers.Faulty.{Faulty}
 use Rattle.frames.specs.declared.standing.Standing.{Standing}
 use Rattle.frames.specs.declared.standing.Standing.TheVariants.{Hunting, Gathering, AfterEscape, Skipping}
 use Rattle.frames.specs.declared.standing.Cause.TheVariants as cause
@@ -111,9 +111,12 @@ ear_after σ good e [] = e
 ear_after σ good e (o ∷ os) = ear_after σ good (moved σ good e o) os
 
 -- a report as a host gets it, and the delivery buffer behind it: information at its front, else all as it was
+abbrev pub Report : Type 0
+Report = Result (Delivered ℕ) Faulty
+
 abbrev pub report_of : Entry → Report
-report_of (handed_over s i) = Delivered s (length i)
-report_of (faulty f n) = Faulty f n
+report_of (handed_over s i) = Ok (record { sapi = s; information = length i })
+report_of (faulty f n) = Err (record { fault = f; gathered = n })
 
 abbrev pub delivered : Option Entry → List ℕ → List ℕ
 delivered None buffer = buffer

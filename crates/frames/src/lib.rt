@@ -2,11 +2,17 @@
 #![tactic(auto)]
 
 mod answers;
+mod layout;
+mod request;
 mod settings;
 mod standing;
 mod worked;
 
-pub use answers::{Fault, Refusal, Report};
+pub use answers::{Delivered, Fault, Faulty, Refusal, Refused, Report};
+pub use layout::{
+    ADAPTATION, ADDRESS, CONTROL, ESCAPE, ESCAPED_ESCAPE, ESCAPED_FLAG, FLAG, HEADER, header_octets,
+};
+pub use request::Request;
 pub use settings::Settings;
 pub use standing::{Cause, Standing};
 pub use worked::worked_cases;

@@ -5,7 +5,7 @@ mod methods;
 
 // What an end is set to. No value breaks the rules: something is served, the longest information is one octet to 2,048
 // and at least 1,600 where MAC is served, and there are two check octets or four.
-#[derive(Clone, Copy)]
+#[derive(Clone, Copy, Debug, PartialEq, Eq)]
 pub struct Settings {
     ipv4: bool,
     ipv6: bool,

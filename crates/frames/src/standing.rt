@@ -1,5 +1,5 @@
 // Why the rest of a frame is passed over.
-#[derive(Clone, Copy)]
+#[derive(Clone, Copy, Debug, PartialEq, Eq)]
 pub enum Cause {
     // 7d was followed by an octet that stands for nothing
     Escape,
@@ -8,7 +8,7 @@ pub enum Cause {
 }
 
 // Where a receiver stands between two octets.
-#[derive(Clone, Copy)]
+#[derive(Clone, Copy, Debug, PartialEq, Eq)]
 pub enum Standing {
     // no flag heard yet
     Hunting,

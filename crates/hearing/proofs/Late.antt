@@ -48,7 +48,7 @@ module _ (σ : Terms) (good : List ℕ → Bool) (p i : ℕ) where
 pub agrees_when_late : {L K : Type 0} (back : L → List ℕ → List ℕ) (passes : K → List ℕ → Bool) (good : List ℕ → Bool) → ((l : L) → Rule (back l))
     → (r : Receiver L K) (line : List ℕ) → Octets line → (reports : List Placed) → reports ≡ reports_of back passes good r line → AgreesWhenLate back passes good r line reports
 agrees_when_late back passes good rules r line o reports is s settles all e before ob i past inside is-flag =
-    let σ = terms r.ear.settings in
+    let σ = terms r.settings in
     let f = back all in
     let g = back r.line in
     let joined = length before in

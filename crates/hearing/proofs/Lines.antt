@@ -1,36 +1,26 @@
 -- Feeds of a line, one after the other: what has been reported so far is what the octets heard so far say.
-use Rattle.std.proofs.Common.{◌≡◌, ℕ, ◌+◌, ◌-◌, ◌<◌, ◌≤◌, min, Bool, List, [], ◌∷◌, ◌++◌, map, length, get_or, take, drop, Some, None, Option, sym, refl, ap, ◌∙◌, subst, ap₂, ⊎_elim, arith, w8, Fits, length-drop, length-take, take-add}
-use Rattle.std.proofs.lemmas.List.{length-take-le, take-take, take_at, take_all, map-append}
-use Rattle.std.proofs.ByRecursion.{All-from_get_or, All-take, All-drop}
+use Rattle.std.proofs.Common.{◌≡◌, ℕ, ◌+◌, ◌-◌, ◌<◌, ◌≤◌, min, Bool, List, [], ◌∷◌, ◌++◌, map, length, take, drop, Some, None, Option, sym, refl, ap, ◌∙◌, subst, ap₂, ⊎_elim, arith, append_assoc, length-drop, length-take}
+use Rattle.std.proofs.Math.Seq.{take-append-add}
+use Rattle.std.proofs.lemmas.List.{append-nil, nil_from_length, take-append-drop, length-append, take-take, take_at, drop_at, take_all, map-append}
+use Rattle.std.proofs.ByRecursion.{All-take, All-drop}
 use Rattle.std.proofs.lemmas.Bool.{cases_lt}
 use Rattle.std.specs.Option.{option_map}
+use Rattle.std.specs.Prelude.{OnSome}
 use Rattle.octets.specs.Octets.{Octets}
 use Rattle.octets.proofs.Joined.{octets_append}
 use Rattle.codes.specs.Rules.{Rule, after}
 use Rattle.codes.specs.Remainders.{answer_append, answer_nil, answer_take, after_after}
-use Rattle.frames.specs.declared.answers.Report.{Report}
 use Rattle.frames.specs.Terms.{Terms}
 use Rattle.frames.specs.Of.{terms}
 use Rattle.frames.specs.Calls.{Entry, handed_over, faulty}
-use Rattle.frames.specs.Receiving.{Ear, used, reported, ear_after, report_of, delivered}
+use Rattle.frames.specs.Receiving.{Ear, Report, used, reported, ear_after, report_of, delivered}
 use Rattle.frames.specs.Hearing.{Placed, placed, reports_from, Within}
 use Rattle.frames.proofs.Feeds.{ear_append, reports_append, used_le, used_some, one_feed}
 use Rattle.receiver.specs.declared.receiver.Receiver.{Receiver}
 use Rattle.receiver.specs.Models.{ear, AlikeEars, Fed, HasHeard}
-use Rattle.receiver.specs.declared.ear.Gatherer.{Gatherer}
+use Rattle.receiver.proofs.Ears.{same_ear}
 use Rattle.hearing.specs.declared.heard.Heard.{Heard}
-use Rattle.hearing.specs.Hears.{outcome_entry, placed_of, report_entry, noted, Step, reports_of}
-
--- the octets of a slice, as the checker knows them
-pub typed : (xs : List ℕ) → ((i : ℕ) → Fits w8 (get_or xs i 0)) → Octets xs
-typed xs h = All-from_get_or (λ x. x < 256) xs 0 (λ i n. omega (arith, h i))
-
-pub same_ear : (e e' : Ear) → AlikeEars e e' → e ≡ e'
-same_ear e e' h = λ i. record { standing = h.standing i; gathered = h.gathered i; good_with = λ os. h.good_with os i }
-
--- what a receiver has in hand is never more than a good frame has
-pub within : {K : Type 0} (passes : K → List ℕ → Bool) (g : Gatherer K) → Within (terms g.settings) (ear passes g)
-within passes g = rw length-take (omega (arith, g.within))
+use Rattle.hearing.specs.Hears.{outcome_entry, placed_of, report_entry, noted, reports_of}
 
 -- a report and the delivery buffer tell the entry
 entry_told : (e : Entry) (buffer : List ℕ) → report_entry (report_of e) (delivered (Some e) buffer) ≡ e
@@ -64,11 +54,12 @@ unfolding reported
 raised_used σ good room e [] x h = let z : ◌≡◌ {A = ℕ} 0 1 = cc in omega arith
 raised_used σ good room e (o ∷ os) x h = used_some σ good room e (o ∷ os) (omega arith)
 
--- the octets before a place have been heard
-pub record Gone {L K : Type 0} (back : L → List ℕ → List ℕ) (passes : K → List ℕ → Bool) (good : List ℕ → Bool) (line : List ℕ) (r₀ : Receiver L K) (place : ℕ) (r : Receiver L K) (out : List Placed) : Type 0 where
-  pub inside : place ≤ length line
-  pub reports : out ≡ reports_of back passes good r₀ (take place line)
-  pub leaves : HasHeard back passes good r₀ (take place line) r
+-- a part of the line has been heard, and the rest is ahead
+pub record Ahead {L K : Type 0} (back : L → List ℕ → List ℕ) (passes : K → List ℕ → Bool) (good : List ℕ → Bool) (line : List ℕ) (r₀ : Receiver L K) (ahead : List ℕ) (r : Receiver L K) (out : List Placed) : Type 0 where
+  pub past : List ℕ
+  pub parts : line ≡ past ++ ahead
+  pub reports : out ≡ reports_of back passes good r₀ past
+  pub leaves : HasHeard back passes good r₀ past r
 
 module _ {L K : Type 0} (back : L → List ℕ → List ℕ) (passes : K → List ℕ → Bool) (good : List ℕ → Bool) (rules : (l : L) → Rule (back l)) where
   -- what a feed uses
@@ -76,27 +67,26 @@ module _ {L K : Type 0} (back : L → List ℕ → List ℕ) (passes : K → Lis
       (fed : Fed back passes good r stretch buffer r' buffer' n report) where
     pub fed_within : n ≤ length stretch
     fed_within =
-        omega (arith, fed.count, (rules r.line).long stretch o, used_le (terms r.ear.settings) good (length buffer) (ear passes r.ear) (back r.line stretch))
+        omega (arith, fed.count, (rules r.line).long stretch o, used_le (terms r.settings) good (length buffer) (ear passes r.ear) (back r.line stretch))
 
     pub fed_some : 0 < length stretch → 0 < n
     fed_some h =
-        omega (arith, fed.count, used_some (terms r.ear.settings) good (length buffer) (ear passes r.ear) (back r.line stretch) (omega (arith, (rules r.line).long stretch o)))
+        omega (arith, fed.count, used_some (terms r.settings) good (length buffer) (ear passes r.ear) (back r.line stretch) (omega (arith, (rules r.line).long stretch o)))
 
-    pub fed_raised : (x : Report) → report ≡ Some x → 0 < n
-    fed_raised x h = go (reported (terms r.ear.settings) good (length buffer) (ear passes r.ear) (back r.line stretch)) refl
+    pub fed_raised : OnSome report (0 < n)
+    fed_raised = told (reported (terms r.settings) good (length buffer) (ear passes r.ear) (back r.line stretch)) refl
       where
-        go : (v : Option Entry) → reported (terms r.ear.settings) good (length buffer) (ear passes r.ear) (back r.line stretch) ≡ v → 0 < n
-        go None e =
-            let none : Some x ≡ None = sym h ∙ fed.report_is ∙ ap (option_map report_of) e in
-            let z : ◌≡◌ {A = ℕ} 0 1 = cc in omega arith
-        go (Some y) e =
-            omega (arith, fed.count, raised_used (terms r.ear.settings) good (length buffer) (ear passes r.ear) (back r.line stretch) y e)
+        told : (v : Option Entry) → reported (terms r.settings) good (length buffer) (ear passes r.ear) (back r.line stretch) ≡ v → OnSome report (0 < n)
+        told None e = subst (λ o. OnSome o (0 < n)) (sym (fed.report_is ∙ ap (option_map report_of) e)) tt
+        told (Some y) e =
+            subst (λ o. OnSome o (0 < n)) (sym (fed.report_is ∙ ap (option_map report_of) e))
+            (omega (arith, fed.count, raised_used (terms r.settings) good (length buffer) (ear passes r.ear) (back r.line stretch) y e))
 
   -- a receiver hears on where it stopped
   pub heard_append : (r r' r'' : Receiver L K) (xs ys : List ℕ) → Octets xs → Octets ys
       → HasHeard back passes good r xs r' → HasHeard back passes good r' ys r'' → HasHeard back passes good r (xs ++ ys) r''
   heard_append r r' r'' xs ys ox oy one two =
-      let σ = terms r.ear.settings in
+      let σ = terms r.settings in
       let f = back r.line in
       let e = ear passes r.ear in
       let answer : f (xs ++ ys) ≡ f xs ++ back r'.line ys = answer_append f (rules r.line) xs ys ox oy ∙ ap (λ z. f xs ++ z) (sym (one.backs ys oy)) in
@@ -113,18 +103,20 @@ module _ {L K : Type 0} (back : L → List ℕ → List ℕ) (passes : K → Lis
 
   module _ (line : List ℕ) (o : Octets line) (r₀ : Receiver L K) where
     abbrev σ : Terms
-    σ = terms r₀.ear.settings
+    σ = terms r₀.settings
 
     abbrev e₀ : Ear
     e₀ = ear passes r₀.ear
 
-    pub gone_none : Gone back passes good line r₀ 0 r₀ []
+    pub ahead_none : (out : List Placed) → out ≡ [] → Ahead back passes good line r₀ line r₀ out
     unfolding reports_from ear_after
-    gone_none =
+    ahead_none out empty =
         let none : back r₀.line [] ≡ [] = answer_nil (back r₀.line) (rules r₀.line) in
+        let reports : [] ≡ reports_of back passes good r₀ [] = rw none refl in
         record {
-          inside = omega arith;
-          reports = rw none refl;
+          past = [];
+          parts = refl;
+          reports = empty ∙ reports;
           leaves = record {
             ears = rw none (record { standing = refl; gathered = refl; good_with = λ os. refl });
             backs = λ xs ox. refl;
@@ -132,104 +124,102 @@ module _ {L K : Type 0} (back : L → List ℕ → List ℕ) (passes : K → Lis
           };
         }
 
-    pub gone_all : (place : ℕ) (r : Receiver L K) (out : List Placed) → length line ≤ place → Gone back passes good line r₀ place r out
+    pub ahead_all : (ahead : List ℕ) (r : Receiver L K) (out : List Placed) → length ahead ≡ 0 → Ahead back passes good line r₀ ahead r out
         → (out ≡ reports_of back passes good r₀ line) × HasHeard back passes good r₀ line r
-    gone_all place r out h g =
-        let e : take place line ≡ line = take_all place line h in
-        (g.reports ∙ ap (reports_of back passes good r₀) e, subst (λ x. HasHeard back passes good r₀ x r) e g.leaves)
+    ahead_all ahead r out none a =
+        let whole : a.past ≡ line = sym (a.parts ∙ ap (λ l. a.past ++ l) (nil_from_length ahead none) ∙ append-nil a.past) in
+        (a.reports ∙ ap (reports_of back passes good r₀) whole, subst (λ x. HasHeard back passes good r₀ x r) whole a.leaves)
 
-    module _ (place cut : ℕ) (r : Receiver L K) (buffer : List ℕ) (out : List Placed) (r' : Receiver L K) (buffer' : List ℕ) (out' : List Placed) (next : ℕ)
-        (enough : σ.longest ≤ length buffer) (g : Gone back passes good line r₀ place r out) (step : Step back passes good line place cut r buffer out r' buffer' out' next) where
-      abbrev n : ℕ
-      n = step.used
+    module _ (ahead : List ℕ) (r : Receiver L K) (out : List Placed) (a : Ahead back passes good line r₀ ahead r out) where
+      octets : Octets (a.past ++ ahead)
+      octets = subst Octets a.parts o
 
-      abbrev rest : List ℕ
-      rest = drop place line
+      o_past : Octets a.past
+      o_past = subst Octets (take_at a.past ahead (length a.past) refl) (All-take (λ x. x < 256) (length a.past) (a.past ++ ahead) octets)
 
-      abbrev stretch : List ℕ
-      stretch = take cut rest
+      o_ahead : Octets ahead
+      o_ahead = subst Octets (drop_at a.past ahead (length a.past) refl) (All-drop (λ x. x < 256) (length a.past) (a.past ++ ahead) octets)
 
-      abbrev f : List ℕ → List ℕ
-      f = back r.line
+      -- the octets ahead by which a receiver goes on
+      on : (k : ℕ) (r' : Receiver L K) → HasHeard back passes good r (take k ahead) r' → HasHeard back passes good r₀ (a.past ++ take k ahead) r'
+      on k r' h = heard_append r₀ r r' a.past (take k ahead) o_past (All-take (λ x. x < 256) k ahead o_ahead) a.leaves h
 
-      abbrev f₀ : List ℕ → List ℕ
-      f₀ = back r₀.line
+      -- wherever memory is wanting, a beginning of the line has been heard
+      pub ahead_part : (cut n : ℕ) (r' : Receiver L K) → HasHeard back passes good r (take n (take cut ahead)) r' → (m : ℕ) × HasHeard back passes good r₀ (take m line) r'
+      ahead_part cut n r' h =
+          let k = min n cut in
+          let front : take (length a.past + k) line ≡ a.past ++ take k ahead = ap (take (length a.past + k)) a.parts ∙ take-append-add a.past ahead k in
+          (length a.past + k, subst (λ x. HasHeard back passes good r₀ x r') (sym front) (on k r' (subst (λ x. HasHeard back passes good r x r') (take_both n cut ahead) h)))
 
-      abbrev e : Ear
-      e = ear passes r.ear
+      -- one feed more, of at most `cut` octets, and its report behind those before
+      module _ (ahead' : List ℕ) (cut n : ℕ) (r' : Receiver L K) (buffer buffer' : List ℕ) (out' : List Placed) (report : Option Report)
+          (enough : σ.longest ≤ length buffer) (fed : Fed back passes good r (take cut ahead) buffer r' buffer' n report)
+          (within : n ≤ length ahead) (is : ahead' ≡ drop n ahead)
+          (told : out' ≡ out ++ noted (length line - length ahead' - 1) report buffer') where
+        abbrev place : ℕ
+        place = length a.past
 
-      o_past : Octets (take place line)
-      o_past = All-take (λ x. x < 256) place line o
+        abbrev stretch : List ℕ
+        stretch = take cut ahead
 
-      o_stretch : Octets stretch
-      o_stretch = All-take (λ x. x < 256) cut rest (All-drop (λ x. x < 256) place line o)
+        abbrev f : List ℕ → List ℕ
+        f = back r.line
 
-      o_used : Octets (take n rest)
-      o_used = All-take (λ x. x < 256) n rest (All-drop (λ x. x < 256) place line o)
+        abbrev f₀ : List ℕ → List ℕ
+        f₀ = back r₀.line
 
-      settings : terms r.ear.settings ≡ σ
-      settings = ap terms g.leaves.settings
+        abbrev e : Ear
+        e = ear passes r.ear
 
-      in_stretch : n ≤ length stretch
-      in_stretch = fed_within r r' stretch buffer buffer' n step.report o_stretch step.fed
+        o_stretch : Octets stretch
+        o_stretch = All-take (λ x. x < 256) cut ahead o_ahead
 
-      in_line : place + n ≤ length line
-      in_line = omega (arith, in_stretch, g.inside, length-take cut rest, length-drop place line)
+        o_used : Octets (take n ahead)
+        o_used = All-take (λ x. x < 256) n ahead o_ahead
 
-      front : take n stretch ≡ take n rest
-      front = take-take n cut rest (omega (arith, in_stretch, length-take cut rest))
+        settings : terms r.settings ≡ σ
+        settings = ap terms a.leaves.settings
 
-      -- the answer to the octets heard by now
-      answer : f₀ (take (place + n) line) ≡ f₀ (take place line) ++ f (take n rest)
-      answer =
-          ap f₀ (take-add place n line)
-          ∙ answer_append f₀ (rules r₀.line) (take place line) (take n rest) o_past o_used
-          ∙ ap (λ z. f₀ (take place line) ++ z) (sym (g.leaves.backs (take n rest) o_used))
+        front : take n stretch ≡ take n ahead
+        front = take-take n cut ahead (omega (arith, fed_within r r' stretch buffer buffer' n report o_stretch fed, length-take cut ahead))
 
-      before : ear_after σ good e₀ (f₀ (take place line)) ≡ e
-      before = sym (same_ear _ _ g.leaves.ears)
+        -- the answer to the octets heard by now
+        answer : f₀ (a.past ++ take n ahead) ≡ f₀ a.past ++ f (take n ahead)
+        answer = answer_append f₀ (rules r₀.line) a.past (take n ahead) o_past o_used ∙ ap (λ z. f₀ a.past ++ z) (sym (a.leaves.backs (take n ahead) o_used))
 
-      here : 0 + length (f₀ (take place line)) ≡ place
-      here = omega (arith, (rules r₀.line).long (take place line) o_past, length-take-le place line g.inside)
+        before : ear_after σ good e₀ (f₀ a.past) ≡ e
+        before = sym (same_ear _ _ a.leaves.ears)
 
-      abbrev v : Option Entry
-      v = reported (terms r.ear.settings) good (length buffer) e (f stretch)
+        here : 0 + length (f₀ a.past) ≡ place
+        here = omega (arith, (rules r₀.line).long a.past o_past)
 
-      -- what this feed reports
-      first : reports_from σ good e place (f (take n rest)) ≡ placed (place + n - 1) v
-      first =
-          let w : Within (terms r.ear.settings) e = within passes r.ear in
-          let room : (terms r.ear.settings).longest ≤ length buffer = subst (λ s. s.longest ≤ length buffer) (sym settings) enough in
-          let one = one_feed (terms r.ear.settings) good (length buffer) room e place (f stretch) w in
-          let used_front : take n (f stretch) ≡ f (take n rest) = answer_take f (rules r.line) n stretch o_stretch ∙ ap f front in
-          let two : reports_from (terms r.ear.settings) good e place (f (take n rest)) ≡ placed (place + n - 1) v = rw (← step.fed.count, used_front) at one in
-          ap (λ s. reports_from s good e place (f (take n rest))) (sym settings) ∙ two
+        next : length line - length ahead' ≡ place + n
+        next = omega (arith, ap length a.parts, length-append a.past ahead, ap length is, length-drop n ahead, within)
 
-      more : out' ≡ reports_of back passes good r₀ (take (place + n) line)
-      more =
-          step.reports
-          ∙ ap₂ ◌++◌ g.reports (note_told (next - 1) v step.report buffer buffer' step.fed.report_is step.fed.delivers ∙ ap (λ q. placed (q - 1) v) step.next_is ∙ sym first)
-          ∙ ap (λ l. reports_from σ good e₀ 0 (f₀ (take place line)) ++ l) (ap₂ (λ x p. reports_from σ good x p (f (take n rest))) (sym before) (sym here))
-          ∙ sym (reports_append σ good e₀ 0 (f₀ (take place line)) (f (take n rest)))
-          ∙ ap (reports_from σ good e₀ 0) (sym answer)
+        abbrev v : Option Entry
+        v = reported (terms r.settings) good (length buffer) e (f stretch)
 
-      left : HasHeard back passes good r₀ (take (place + n) line) r'
-      left =
-          subst (λ x. HasHeard back passes good r₀ x r') (sym (take-add place n line))
-          (heard_append r₀ r r' (take place line) (take n rest) o_past o_used g.leaves (subst (λ x. HasHeard back passes good r x r') front step.fed.leaves))
+        -- what this feed reports
+        first : reports_from σ good e place (f (take n ahead)) ≡ placed (place + n - 1) v
+        first =
+            let w : Within (terms r.settings) e = r.within in
+            let room : (terms r.settings).longest ≤ length buffer = subst (λ s. s.longest ≤ length buffer) (sym settings) enough in
+            let one = one_feed (terms r.settings) good (length buffer) room e place (f stretch) w in
+            let used_front : take n (f stretch) ≡ f (take n ahead) = answer_take f (rules r.line) n stretch o_stretch ∙ ap f front in
+            let two : reports_from (terms r.settings) good e place (f (take n ahead)) ≡ placed (place + n - 1) v = rw (← fed.count, used_front) at one in
+            ap (λ s. reports_from s good e place (f (take n ahead))) (sym settings) ∙ two
 
-      pub gone_more : Gone back passes good line r₀ next r' out'
-      gone_more =
-          subst (λ q. Gone back passes good line r₀ q r' out') (sym step.next_is) (record { inside = in_line; reports = more; leaves = left })
+        more : out' ≡ reports_of back passes good r₀ (a.past ++ take n ahead)
+        more =
+            told
+            ∙ ap₂ ◌++◌ a.reports
+            (ap (λ k. noted (k - 1) report buffer') next ∙ note_told (place + n - 1) v report buffer buffer' fed.report_is fed.delivers ∙ sym first)
+            ∙ ap (λ l. reports_from σ good e₀ 0 (f₀ a.past) ++ l) (ap₂ (λ x p. reports_from σ good x p (f (take n ahead))) (sym before) (sym here))
+            ∙ sym (reports_append σ good e₀ 0 (f₀ a.past) (f (take n ahead)))
+            ∙ ap (reports_from σ good e₀ 0) (sym answer)
 
-    -- wherever memory is wanting, a beginning of the line has been heard
-    pub gone_part : (place cut n : ℕ) (r r' : Receiver L K) (out : List Placed) → Gone back passes good line r₀ place r out
-        → HasHeard back passes good r (take n (take cut (drop place line))) r' → (m : ℕ) × HasHeard back passes good r₀ (take m line) r'
-    gone_part place cut n r r' out g h =
-        let o-rest : Octets (drop place line) = All-drop (λ x. x < 256) place line o in
-        let least : take n (take cut (drop place line)) ≡ take (min n cut) (drop place line) = take_both n cut (drop place line) in (
-          place + min n cut,
-          subst (λ x. HasHeard back passes good r₀ x r') (sym (take-add place (min n cut) line))
-              (heard_append r₀ r r' (take place line) (take (min n cut) (drop place line)) (All-take (λ x. x < 256) place line o) (All-take (λ x. x < 256) (min n cut) (drop place line) o-rest)
-              g.leaves (subst (λ x. HasHeard back passes good r x r') least h)),
-        )
+        parts : line ≡ (a.past ++ take n ahead) ++ ahead'
+        parts = a.parts ∙ ap (λ l. a.past ++ l) (sym (take-append-drop n ahead)) ∙ sym (append_assoc a.past (take n ahead) (drop n ahead)) ∙ ap (λ l. (a.past ++ take n ahead) ++ l) (sym is)
+
+        pub ahead_more : Ahead back passes good line r₀ ahead' r' out'
+        ahead_more = record { past = a.past ++ take n ahead; parts = parts; reports = more; leaves = on n r' (subst (λ x. HasHeard back passes good r x r') front fed.leaves) }

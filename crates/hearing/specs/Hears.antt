@@ -1,32 +1,31 @@
 -- What hearing a whole line comes to, however it is cut.
-use Rattle.std.specs.Prelude.{◌≡◌, ℕ, ◌+◌, ◌-◌, ◌^◌, ◌<◌, ◌≤◌, Bool, List, [], ◌∷◌, ◌++◌, length, take, drop, Some, None, vec_items, Option, slice_index}
+use Rattle.std.specs.Prelude.{◌≡◌, ℕ, ◌+◌, ◌-◌, ◌^◌, ◌<◌, ◌≤◌, Bool, List, [], ◌∷◌, ◌++◌, length, take, Some, None, Ok, Err, Vec, vec_items, Option, Result, slice_index}
+use Rattle.std.specs.declared.alloc.Global.{Global}
 use Rattle.octets.specs.Octets.{Octets}
 use Rattle.codes.specs.Rules.{after, Settles}
-use Rattle.frames.specs.declared.answers.Report.{Report}
-use Rattle.frames.specs.declared.answers.Report.TheVariants.{Delivered, Faulty}
+use Rattle.frames.specs.declared.answers.Delivered.{Delivered}
+use Rattle.frames.specs.declared.answers.Faulty.{Faulty}
 use Rattle.frames.specs.Of.{terms}
 use Rattle.frames.specs.Layout.{flag}
 use Rattle.frames.specs.Calls.{Entry, handed_over, faulty}
-use Rattle.frames.specs.Receiving.{Ear}
+use Rattle.frames.specs.Receiving.{Ear, Report}
 use Rattle.frames.specs.Hearing.{Placed, reports_from, entries, behind}
 use Rattle.receiver.specs.declared.receiver.Receiver.{Receiver}
-use Rattle.receiver.specs.Models.{ear, Fed}
-use Rattle.hearing.specs.declared.heard.Outcome.{Outcome}
-use Rattle.hearing.specs.declared.heard.Outcome.TheVariants as outcome
+use Rattle.receiver.specs.Models.{ear}
 use Rattle.hearing.specs.declared.heard.Heard.{Heard}
 
 -- what the host gets, as the definitions have it
-abbrev pub outcome_entry : Outcome → Entry
-outcome_entry (outcome.Delivered sapi information) = handed_over sapi (vec_items information)
-outcome_entry (outcome.Faulty fault gathered) = faulty fault gathered
+abbrev pub outcome_entry : Result (Delivered (Vec ℕ Global)) Faulty → Entry
+outcome_entry (Ok d) = handed_over d.sapi (vec_items d.information)
+outcome_entry (Err x) = faulty x.fault x.gathered
 
 abbrev pub placed_of : Heard → Placed
 placed_of h = record { place = h.place; entry = outcome_entry h.outcome }
 
 -- a report with what stands in the delivery buffer
 abbrev pub report_entry : Report → List ℕ → Entry
-report_entry (Delivered sapi length) delivery = handed_over sapi (take length delivery)
-report_entry (Faulty fault gathered) delivery = faulty fault gathered
+report_entry (Ok d) delivery = handed_over d.sapi (take d.information delivery)
+report_entry (Err x) delivery = faulty x.fault x.gathered
 
 abbrev pub noted : ℕ → Option Report → List ℕ → List Placed
 noted place None delivery = []
@@ -38,17 +37,9 @@ next_stretch [] = 2 ^ 64 - 1
 next_stretch (c ∷ cs) = c
 
 module _ {L K : Type 0} (back : L → List ℕ → List ℕ) (passes : K → List ℕ → Bool) (good : List ℕ → Bool) where
-  -- one feed more, of at most `cut` octets from a place of the line on, and its report behind those before
-  pub record Step (line : List ℕ) (place cut : ℕ) (r : Receiver L K) (buffer : List ℕ) (out : List Placed) (r' : Receiver L K) (buffer' : List ℕ) (out' : List Placed) (next : ℕ) : Type 0 where
-    pub used : ℕ
-    pub report : Option Report
-    pub fed : Fed back passes good r (take cut (drop place line)) buffer r' buffer' used report
-    pub next_is : next ≡ place + used
-    pub reports : out' ≡ out ++ noted (next - 1) report buffer'
-
   -- what a receiver reports of a line, with the places of the octets that raise it
   abbrev pub reports_of : Receiver L K → List ℕ → List Placed
-  reports_of r line = reports_from (terms r.ear.settings) good (ear passes r.ear) 0 (back r.line line)
+  reports_of r line = reports_from (terms r.settings) good (ear passes r.ear) 0 (back r.line line)
 
   -- A late joiner agrees: whatever the line code settles in, let any other receiver with the same settings have heard the
   -- line from its start, `before` among it, in any state. Behind any flag, as that one gets it back, that lies the settling
@@ -57,4 +48,4 @@ module _ {L K : Type 0} (back : L → List ℕ → List ℕ) (passes : K → Lis
   AgreesWhenLate r line reports =
       (s : ℕ) → Settles s back → (all : L) (e : Ear) (before : List ℕ) → Octets before
       → (i : ℕ) → s ≤ i → i < length line → slice_index (after (back all) before line) i ≡ flag
-      → entries (behind i reports) ≡ entries (behind (length before + i) (reports_from (terms r.ear.settings) good e 0 (back all (before ++ line))))
+      → entries (behind i reports) ≡ entries (behind (length before + i) (reports_from (terms r.settings) good e 0 (back all (before ++ line))))

@@ -1,15 +1,8 @@
-use frames::Fault;
+use frames::Report;
 
-// What became of a frame.
-#[derive(Drop)]
-pub enum Outcome {
-    Delivered { sapi: u16, information: Vec<u8> },
-    Faulty { fault: Fault, gathered: usize },
-}
-
-// What was reported, and the place on the line of the octet that raised it.
-#[derive(Drop)]
+// What was reported, with its information, and the place on the line of the octet that raised it.
+#[derive(Debug, PartialEq, Eq, Drop)]
 pub struct Heard {
     pub place: usize,
-    pub outcome: Outcome,
+    pub outcome: Report<Vec<u8>>,
 }

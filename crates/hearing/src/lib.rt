@@ -4,5 +4,5 @@
 mod heard;
 mod line;
 
-pub use heard::{Heard, Outcome};
+pub use heard::Heard;
 pub use line::hear;

@@ -1,76 +1,66 @@
-ghost use Rattle.std.specs.Prelude.{◌≡◌, ℕ, ◌+◌, ◌<◌, ◌≤◌, [], ◌∷◌, map, length, take, drop, IfOk, Some, OnOk};
-ghost use Rattle.frames.specs.Of.{terms};
-ghost use Rattle.hearing.specs.Hears.{next_stretch, outcome_entry, placed_of, report_entry, Step, reports_of, AgreesWhenLate};
+ghost use Rattle.std.specs.Prelude.{◌≡◌, ℕ, ◌-◌, ◌<◌, ◌≤◌, ◌++◌, map, length, take, drop, IfOk, OnOk, OnSome};
+ghost use Rattle.hearing.specs.Hears.{next_stretch, outcome_entry, placed_of, report_entry, noted, reports_of, AgreesWhenLate};
 ghost use Rattle.receiver.specs.Models.{Fed, HasHeard};
 
-use crate::heard::{Heard, Outcome};
+use crate::heard::Heard;
 use checks::Check;
 use codes::LineCode;
-use frames::Report;
+use frames::{Delivered, Report};
+use octets::front;
 use receiver::Receiver;
 use std::alloc::{AllocError, Global};
 
 // Room for any information: no setting allows more.
 const DELIVERY: usize = 2048;
 
-// At most so many octets, from the front.
-fn front(octets: &[u8], count: usize) -> &[u8]
-    ensures { result.now ≡ take count octets.now }
-{
-    &octets[0..count.min(octets.len())]
-}
-
 // A report with the information that was delivered.
-fn outcome(heap: Global, report: Report, delivery: &[u8]) -> Result<Outcome, AllocError>
+fn outcome(
+    heap: Global,
+    report: Report<usize>,
+    delivery: &[u8],
+) -> Result<Report<Vec<u8>>, AllocError>
     ensures { IfOk result (λ o. outcome_entry o ≡ report_entry report delivery.now) }
 {
     match report {
-        Report::Delivered { sapi, length } => {
-            let information = Vec::from_slice(heap, front(delivery, length))?;
-            Ok(Outcome::Delivered { sapi, information })
+        Ok(Delivered { sapi, information }) => {
+            let information = Vec::from_slice(heap, front(delivery, information))?;
+            Ok(Ok(Delivered { sapi, information }))
         }
-        Report::Faulty { fault, gathered } => Ok(Outcome::Faulty { fault, gathered }),
+        Err(faulty) => Ok(Err(faulty)),
     }
 }
 
-// One feed, of at most `cut` octets from a place of the line on.
-fn feed_from<L: LineCode, K: Check + Drop>(
+// One feed, of at most `cut` of the octets ahead.
+fn feed_some<L: LineCode, K: Check + Drop>(
     receiver: &mut Receiver<L, K>,
-    line: &[u8],
-    place: usize,
+    ahead: &[u8],
     cut: usize,
     delivery: &mut [u8],
-) -> (usize, Option<Report>)
-    requires { place ≤ length line.now }
-    ensures fed { Fed L.LineCode.back K.Check.passes K.Check.good receiver.old (take cut (drop place line.now)) delivery.old receiver.new delivery.new result.0 result.1 }
-    ensures within { place + result.0 ≤ length line.now }
-    ensures raised { (x : Report) → result.1 ≡ Some x → 0 < result.0 }
-    ensures some { 0 < cut → place < length line.now → 0 < result.0 }
+) -> (usize, Option<Report<usize>>)
+    ensures fed { Fed L.LineCode.back K.Check.passes K.Check.good receiver.old (take cut ahead.now) delivery.old receiver.new delivery.new result.0 result.1 }
+    ensures within { result.0 ≤ length ahead.now }
+    ensures raised { OnSome result.1 (0 < result.0) }
+    ensures some { 0 < cut → 0 < length ahead.now → 0 < result.0 }
 {
-    receiver.feed(front(&line[place..], cut), delivery)
+    receiver.feed(front(ahead, cut), delivery)
 }
 
-// The same, and the report is put behind those before. The answer is the place behind the octets used.
-fn hear_some<L: LineCode, K: Check + Drop>(
-    receiver: &mut Receiver<L, K>,
-    line: &[u8],
-    place: usize,
-    cut: usize,
-    delivery: &mut [u8],
+// A report, if there is one, is put behind those before. It was raised by the octet before the place `next`.
+fn note(
     reports: &mut Vec<Heard>,
-) -> Result<usize, AllocError>
-    requires { place ≤ length line.now }
-    ensures step { IfOk result (λ next. Step L.LineCode.back K.Check.passes K.Check.good line.now place cut receiver.old delivery.old (map placed_of reports.old.items) receiver.new delivery.new (map placed_of reports.new.items) next × (0 < cut → place < length line.now → place < next)) }
-    ensures leaves { (n : ℕ) × HasHeard L.LineCode.back K.Check.passes K.Check.good receiver.old (take n (take cut (drop place line.now))) receiver.new }
+    next: usize,
+    report: Option<Report<usize>>,
+    delivery: &[u8],
+) -> Result<(), AllocError>
+    requires { OnSome report (0 < next) }
+    ensures { OnOk result (map placed_of reports.new.items ≡ map placed_of reports.old.items ++ noted (next - 1) report delivery.now) }
 {
-    let (used, report) = feed_from(receiver, line, place, cut, delivery);
-    let next = place + used;
     if let Some(report) = report {
-        let outcome = outcome(*reports.allocator(), report, delivery)?;
         let place = next - 1;
+        let outcome = outcome(*reports.allocator(), report, delivery)?;
         reports.push(Heard { place, outcome })?;
     }
-    Ok(next)
+    Ok(())
 }
 
 // The length of the next stretch, and the further ones. Behind the last there is one for all that is left.
@@ -101,12 +91,14 @@ pub fn hear<L: LineCode, K: Check + Drop>(
 {
     let mut reports = Vec::new(heap);
     let mut delivery = [0; DELIVERY];
-    let mut place = 0;
+    let mut ahead = line;
     let mut rest = cuts;
-    while place < line.len() {
+    while !ahead.is_empty() {
         let (cut, further) = next_cut(rest);
-        place = hear_some(receiver, line, place, cut, &mut delivery, &mut reports)?;
+        let (used, report) = feed_some(receiver, ahead, cut, &mut delivery);
+        ahead = &ahead[used..];
         rest = further;
+        note(&mut reports, line.len() - ahead.len(), report, &delivery)?;
     }
     Ok(reports)
 }

@@ -1,4 +1,2 @@
-pub mod Typed
-pub mod Fronts
-pub mod Rows
 pub mod Lengths
+pub mod Asked

@@ -12,44 +12,20 @@ pub struct Carried {
     pub back: Vec<u8>,
 }
 
-// What a sender makes of octets.
-fn sent<L: LineCode + Drop>(
-    heap: Global,
-    mut sender: L,
-    octets: &[u8],
-) -> Result<Vec<u8>, AllocError>
-    ensures { IfOk result (λ v. v.items ≡ L.LineCode.onward sender octets.now) }
-{
-    let mut line = Vec::from_slice(heap, octets)?;
-    send_all(&mut sender, line.as_mut_slice());
-    Ok(line)
-}
-
-// What a receiver makes of the octets of a line.
-fn received<L: LineCode + Drop>(
-    heap: Global,
-    mut receiver: L,
-    line: &[u8],
-) -> Result<Vec<u8>, AllocError>
-    ensures { IfOk result (λ v. v.items ≡ L.LineCode.back receiver line.now) }
-{
-    let mut octets = Vec::from_slice(heap, line)?;
-    receive_all(&mut receiver, octets.as_mut_slice());
-    Ok(octets)
-}
-
 // Over a line from a sender to a receiver: the octets come back where the two began alike.
 fn through<L: LineCode + Drop>(
     heap: Global,
-    sender: L,
-    receiver: L,
+    mut sender: L,
+    mut receiver: L,
     octets: &[u8],
 ) -> Result<Carried, AllocError>
     ensures line { IfOk result (λ c. c.line.items ≡ L.LineCode.onward sender octets.now) }
     ensures back { IfOk result (λ c. (L.LineCode.back receiver ≡ L.LineCode.back sender → c.back.items ≡ octets.now)) }
 {
-    let line = sent(heap, sender, octets)?;
-    let back = received(heap, receiver, line.as_slice())?;
+    let mut line = Vec::from_slice(heap, octets)?;
+    send_all(&mut sender, line.as_mut_slice());
+    let mut back = line.clone()?;
+    receive_all(&mut receiver, back.as_mut_slice());
     Ok(Carried { line, back })
 }
 

@@ -2,7 +2,7 @@ ghost use Rattle.std.specs.Prelude.{◌≡◌};
 ghost use Rattle.inspect.specs.Listing.{name};
 
 // The line codes that a request can name, each from a new register.
-#[derive(Clone, Copy)]
+#[derive(Clone, Copy, Debug, PartialEq, Eq)]
 pub enum Code {
     Straight,
     Mirrored,
@@ -12,6 +12,10 @@ pub enum Code {
 }
 
 impl Code {
+    // Each code, in the order in which a line is tried.
+    pub const ALL: [Code; 4] = [Code::Straight, Code::Mirrored, Code::Scrambler, Code::Pile];
+
+    // octets and no `str`: requests and rows are made of octets
     pub fn name(self) -> &'static [u8]
         ensures { result.now ≡ name self }
     {

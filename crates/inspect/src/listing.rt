@@ -46,6 +46,7 @@ fn push_carried(out: &mut Vec<u8>, carried: &Carried) -> Result<(), AllocError>
 }
 
 // The row of octets and a code.
+#[tactic(auto, unfolding(crate::specs::Listing::row))]
 fn row(heap: Global, code: Code, octets: &[u8]) -> Result<Vec<u8>, AllocError>
     ensures { IfOk result (λ v. v.items ≡ row code octets.now) }
 {

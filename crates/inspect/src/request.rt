@@ -5,6 +5,7 @@ ghost use Rattle.std.specs.Option.{option_map};
 use crate::code::Code;
 
 // What stands behind a front, if the text begins with it.
+#[tactic(auto, using(text::proofs::Stripped::stripped), unfolding(crate::specs::Listing::beyond))]
 fn strip<'a>(text: &'a [u8], front: &[u8]) -> Option<&'a [u8]>
     ensures { option_map (λ x. x.now) result ≡ beyond front.now text.now }
 {
@@ -20,20 +21,14 @@ fn digits_for(code: Code, line: &[u8]) -> Option<&[u8]>
 }
 
 // The code that the line asks for, and the digits behind it.
+#[tactic(auto, unfolding(crate::specs::Listing::request))]
 pub fn request(line: &[u8]) -> Option<(Code, &[u8])>
     ensures { option_map (λ asked. (asked.0, asked.1.now)) result ≡ request line.now }
 {
-    if let Some(digits) = digits_for(Code::Straight, line) {
-        return Some((Code::Straight, digits));
-    }
-    if let Some(digits) = digits_for(Code::Mirrored, line) {
-        return Some((Code::Mirrored, digits));
-    }
-    if let Some(digits) = digits_for(Code::Scrambler, line) {
-        return Some((Code::Scrambler, digits));
-    }
-    if let Some(digits) = digits_for(Code::Pile, line) {
-        return Some((Code::Pile, digits));
+    for code in Code::ALL {
+        if let Some(digits) = digits_for(code, line) {
+            return Some((code, digits));
+        }
     }
     None
 }

@@ -4,30 +4,23 @@
 
 use checks::Fcs32;
 use codes::Scrambler;
-use frames::Settings;
-use hearing::{Heard, Outcome, hear};
-use receiver::{Made, Receiver};
+use frames::{Delivered, Faulty, Settings};
+use hearing::{Heard, hear};
+use receiver::Receiver;
 use std::io::Read;
 use std::{env, io};
-use text::{parse_decimal, parse_hex};
-
-fn show_octets(rt: &HostRuntime, octets: &[u8]) -> io::Result<()> {
-    for octet in octets {
-        print!(rt; "{octet:02x}")?;
-    }
-    println!(rt; "")
-}
+use text::{Hex, parse_decimal, parse_hex};
 
 fn show(rt: &HostRuntime, joined: usize, stretch: u16, heard: &Heard) -> io::Result<()> {
     let place = joined.saturating_add(heard.place);
     print!(rt; "{joined},{stretch},{place},")?;
     match &heard.outcome {
-        Outcome::Delivered { sapi, information } => {
+        Ok(Delivered { sapi, information }) => {
             let count = information.len();
-            print!(rt; "D,0,{sapi:04x},{count},")?;
-            show_octets(rt, information.as_slice())
+            let octets = Hex(information.as_slice());
+            println!(rt; "D,0,{sapi:04x},{count},{octets}")
         }
-        Outcome::Faulty { fault, gathered } => {
+        Err(Faulty { fault, gathered }) => {
             let number = fault.number();
             println!(rt; "F,{number},-,{gathered},-")
         }
@@ -39,10 +32,7 @@ fn join(rt: &HostRuntime, line: &[u8], joined: u16, stretch: u16) -> io::Result<
     let Ok(settings) = Settings::new(7, 1600, 4) else {
         return Ok(());
     };
-    let Made::Receiver(mut receiver) = Receiver::<Scrambler, Fcs32>::new(
-        settings,
-        Scrambler::new(0),
-    ) else {
+    let Ok(mut receiver) = Receiver::<Scrambler, Fcs32>::new(settings, Scrambler::new(0)) else {
         return Ok(());
     };
     let joined = usize::from(joined).min(line.len());

@@ -13,14 +13,12 @@ use Rattle.frames.specs.Calls.{Call, opening, adding, adapting, filling, Frame, 
 use Rattle.frames.proofs.Lines.{call_octets}
 use Rattle.sender.specs.declared.idle.Idle.{Idle}
 use Rattle.sender.specs.declared.open.Open.{Open}
-use Rattle.sender.specs.declared.answers.Opened.TheVariants as Opening-of
-use Rattle.sender.specs.declared.answers.Ended.{Ended}
-use Rattle.sender.specs.declared.answers.Ended.TheVariants as Ending-of
+use Rattle.frames.specs.declared.answers.Refused.{Refused as TurnedBack}
 use Rattle.sender.specs.Outcomes.{Taken, opening_refusal, adding_refusal, Opening, Filling, Adding, Adapting, Ending}
-use Rattle.link.specs.declared.calls.Answer.TheVariants as answer
+use Rattle.link.specs.declared.answer.TurnedDown.TheVariants.{Refused}
 use Rattle.link.specs.declared.calling.Sender.{Sender}
 use Rattle.link.specs.declared.calling.Sender.TheVariants as sender
-use Rattle.link.specs.Answering.{answered_as, ended_as}
+use Rattle.link.specs.Answering.{answered_as, opened_as, ended_as}
 use Rattle.link.specs.Driving.{Stands, Driven, IfAllowed, CallsOn}
 
 module _ {L K : Type 0} (onward : L → List ℕ → List ℕ) (owes : K → List ℕ → List ℕ) (owed : List ℕ → List ℕ) (fits : (m : List ℕ) → Octets m → Octets (owed m)) (before left : List ℕ) where
@@ -29,30 +27,33 @@ module _ {L K : Type 0} (onward : L → List ℕ → List ℕ) (owes : K → Lis
     taken : Known φ → Typed κ → (f f' : List ℕ → List ℕ) (n : ℕ) → Alike f (after start sent)
         → Taken (refused σ owed φ κ (length before)) f f' (octets owed φ κ) before left n
         → (Alike f' (after start (sent ++ octets owed φ κ)) → Stands onward owes owed start σ (next φ κ) (sent ++ octets owed φ κ) s')
-        → IfAllowed onward owes owed (allows φ κ) start σ φ sent κ s before s' left (answer.Written n)
+        → IfAllowed onward owes owed (allows φ κ) start σ φ sent κ s before s' left (Ok n)
     taken k t f f' n a h stands =
         let os : List ℕ = octets owed φ κ in
         let o : Octets os = call_octets owed fits φ κ k t in
-        subst (λ b. IfAllowed onward owes owed b start σ φ sent κ s before s' left (answer.Written n)) (sym allowed)
-        (subst (λ v. Driven onward owes owed start σ φ sent κ v s before s' left (answer.Written n)) (sym h.unrefused) (
-          ap answer.Written h.counted,
+        subst (λ b. IfAllowed onward owes owed b start σ φ sent κ s before s' left (Ok n)) (sym allowed)
+        (subst (λ v. Driven onward owes owed start σ φ sent κ v s before s' left (Ok n)) (sym h.unrefused) (
+          ap Ok h.counted,
           h.stretch ∙ ap (λ l. l ++ drop (length os) before) (a os o),
           stands (λ xs ox. h.line xs ox ∙ ap (drop (length os)) (a (os ++ xs) (octets_append os xs o ox)) ∙ after_after start sent os xs),
         ))
 
     turned_down : (r : Refusal) → refused σ owed φ κ (length before) ≡ Some r → left ≡ before → s' ≡ s
-        → IfAllowed onward owes owed (allows φ κ) start σ φ sent κ s before s' left (answer.Refused r)
+        → IfAllowed onward owes owed (allows φ κ) start σ φ sent κ s before s' left (Err (Refused r))
     turned_down r g e same =
-        subst (λ b. IfAllowed onward owes owed b start σ φ sent κ s before s' left (answer.Refused r)) (sym allowed)
-        (subst (λ v. Driven onward owes owed start σ φ sent κ v s before s' left (answer.Refused r)) (sym g) (refl, e, same))
+        subst (λ b. IfAllowed onward owes owed b start σ φ sent κ s before s' left (Err (Refused r))) (sym allowed)
+        (subst (λ v. Driven onward owes owed start σ φ sent κ v s before s' left (Err (Refused r))) (sym g) (refl, e, same))
 
-  pub opens : (s : Idle L K) (s' : Open L K) (sapi n : ℕ) → sapi < 65536 → Opening onward owed owes sapi s before left (Opening-of.Open s' n)
-      → CallsOn onward owes owed (opening sapi) (sender.Idle s) before (sender.Open s') left (answer.Written n)
-  opens s s' sapi n t h start σ idle sent k at =
+  pub opens : (s : Idle L K) (sapi : ℕ) (r : Result (Open L K × ℕ) (TurnedBack (Idle L K))) → sapi < 65536 → Opening onward owed owes sapi s before left r
+      → CallsOn onward owes owed (opening sapi) (sender.Idle s) before (opened_as r).sender left (opened_as r).answer
+  opens s sapi (Ok (s', n)) t h start σ idle sent k at =
       taken start σ idle sent (opening sapi) refl (sender.Idle s) (sender.Open s') k t (onward s.line) (onward s'.line) n at.1
       (subst (λ τ. Taken (opening_refusal τ sapi (length before)) (onward s.line) (onward s'.line) (opening_octets sapi) before left n) at.0 h.0)
       (λ a. (ap terms h.1 ∙ at.0, a, h.2, h.3))
-  opens s s' sapi n t h start σ (opened a i) sent k at = absurd at
+  opens s sapi (Err e) t h start σ idle sent k at =
+      turned_down start σ idle sent (opening sapi) refl (sender.Idle s) (sender.Idle e.given) e.refusal
+      (ap (λ τ. opening_refusal τ sapi (length before)) (sym at.0) ∙ h.refused) h.stretch (ap sender.Idle h.same)
+  opens s sapi r t h start σ (opened a i) sent k at = absurd at
 
   pub fills : (s s' : Idle L K) (n : ℕ) (r : Result ℕ Refusal) → Filling onward n s s' before left r
       → CallsOn onward owes owed (filling n) (sender.Idle s) before (sender.Idle s') left (answered_as r)
@@ -99,14 +100,14 @@ module _ {L K : Type 0} (onward : L → List ℕ → List ℕ) (owes : K → Lis
         → write (owes s.check []) ≡ octets owed (opened a i) κ
     writes a i h = ap write (h [] ∙ ap owed (append-nil (header a ++ i))) ∙ sym (is a i).1
 
-    pub ends : (r : Ended L K) → Ending onward (write (owes s.check [])) s before left r
+    pub ends : (r : Result (Idle L K × ℕ) (TurnedBack (Open L K))) → Ending onward (write (owes s.check [])) s before left r
         → CallsOn onward owes owed κ (sender.Open s) before (ended_as r).sender left (ended_as r).answer
-    ends (Ending-of.Idle s' n) h start σ (opened a i) sent k at =
+    ends (Ok (s', n)) h start σ (opened a i) sent k at =
         taken start σ (opened a i) sent κ (is a i).0 (sender.Open s) (sender.Idle s') k typed (onward s.line) (onward s'.line) n at.1
         (subst (λ v. Taken v (onward s.line) (onward s'.line) (octets owed (opened a i) κ) before left n) (sym ((is a i).3 σ (length before)))
         (subst (λ os. Taken (stretch_refusal os (length before)) (onward s.line) (onward s'.line) os before left n) (writes a i at.3) h.0))
         (λ l. subst (λ φ. Stands onward owes owed start σ φ (sent ++ octets owed (opened a i) κ) (sender.Idle s')) (sym (is a i).2) (ap terms h.1 ∙ at.0, l))
-    ends (Ending-of.Refused s' r) h start σ (opened a i) sent k at =
-        turned_down start σ (opened a i) sent κ (is a i).0 (sender.Open s) (sender.Open s') r
+    ends (Err e) h start σ (opened a i) sent k at =
+        turned_down start σ (opened a i) sent κ (is a i).0 (sender.Open s) (sender.Open e.given) e.refusal
         ((is a i).3 σ (length before) ∙ ap (λ os. stretch_refusal os (length before)) (sym (writes a i at.3)) ∙ h.refused) h.stretch (ap sender.Open h.same)
     ends r h start σ idle sent k at = absurd at

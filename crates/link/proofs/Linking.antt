@@ -1,5 +1,5 @@
 -- One call over a link: what the receiver makes of the octets that the sender wrote.
-use Rattle.std.proofs.Common.{◌≡◌, ℕ, ◌+◌, ◌≤◌, Bool, true, false, List, [], ◌++◌, length, take, drop, Some, None, Option, sym, refl, ap, ◌∙◌, subst, ap₂, inl, arith, length-append, length-take}
+use Rattle.std.proofs.Common.{◌≡◌, ℕ, ◌+◌, ◌≤◌, Bool, true, false, List, [], ◌++◌, length, take, drop, Some, None, Ok, Err, Option, sym, refl, ap, ◌∙◌, subst, ap₂, inl, arith, length-append}
 use Rattle.std.proofs.lemmas.List.{take_at, take_all, drop_at}
 use Rattle.std.specs.Option.{option_map, option_to_list}
 use Rattle.octets.specs.Octets.{Octets}
@@ -7,38 +7,32 @@ use Rattle.octets.proofs.Joined.{octets_append}
 use Rattle.codes.specs.Rules.{Rule, after}
 use Rattle.codes.specs.Remainders.{answer_append, answer_nil, after_rule, after_after}
 use Rattle.checks.specs.Law.{Width, Owes, Tells}
-use Rattle.frames.specs.declared.answers.Report.{Report}
 use Rattle.frames.specs.Terms.{Terms}
 use Rattle.frames.specs.Of.{terms}
 use Rattle.frames.specs.Calls.{Call, Frame, idle, opened, allows, octets, next, refused, Entry, entered, Typed, Known}
-use Rattle.frames.specs.Receiving.{Ear, hunting, used, reported, ear_after, report_of, delivered}
+use Rattle.frames.specs.Receiving.{Ear, hunting, used, reported, ear_after, Report, report_of, delivered}
 use Rattle.frames.specs.Following.{Follows}
 use Rattle.frames.specs.Hearing.{Within}
 use Rattle.frames.proofs.Lines.{call_octets}
 use Rattle.frames.proofs.Once.{heard_call}
 use Rattle.receiver.specs.declared.receiver.Receiver.{Receiver}
+use Rattle.receiver.proofs.Ears.{same_ear}
 use Rattle.receiver.specs.Models.{ear, AlikeEars, Fed, HasHeard}
 use Rattle.frames.specs.declared.settings.Settings.{Settings}
 use Rattle.sender.specs.declared.idle.Idle.{Idle}
 use Rattle.link.specs.declared.calling.Sender.TheVariants as sender
 use Rattle.link.specs.declared.link.Link.{Link}
 use Rattle.link.specs.declared.calling.Sender.{Sender}
-use Rattle.link.specs.declared.calls.Answer.{Answer}
-use Rattle.link.specs.declared.calls.Answer.TheVariants as answer
+use Rattle.link.specs.Answering.{Answer}
+use Rattle.link.specs.declared.answer.TurnedDown.{TurnedDown}
 use Rattle.frames.specs.declared.answers.Refusal.{Refusal}
 use Rattle.link.specs.Driving.{Stands, Driven, IfAllowed, CallsOn}
 use Rattle.link.specs.Linked.{first, Start, Linked, Exchanged, IfPermitted, Exchanges, HearsFront}
 
-same_ear : (e e' : Ear) → AlikeEars e e' → e ≡ e'
-same_ear e e' h = λ i. record { standing = h.standing i; gathered = h.gathered i; good_with = λ os. h.good_with os i }
+pub written≢turned : {n : ℕ} {x : TurnedDown} → ◌≡◌ {A = Answer} (Ok n) (Err x) → ⊥
+written≢turned h = let z : ◌≡◌ {A = ℕ} 0 1 = cc in omega arith
 
-pub written≢refused : {n : ℕ} {x : Refusal} → answer.Written n ≡ answer.Refused x → ⊥
-written≢refused h = let z : ◌≡◌ {A = ℕ} 0 1 = cc in omega arith
-
-pub written≢not_allowed : {n : ℕ} → answer.Written n ≡ answer.NotAllowed → ⊥
-written≢not_allowed h = let z : ◌≡◌ {A = ℕ} 0 1 = cc in omega arith
-
-pub written_same : {n m : ℕ} → answer.Written n ≡ answer.Written m → n ≡ m
+pub written_same : {n m : ℕ} → ◌≡◌ {A = Answer} (Ok n) (Ok m) → n ≡ m
 written_same h = cc
 
 first_of : (v : Option Entry) (es : List Entry) → option_to_list v ≡ es → v ≡ first es
@@ -51,8 +45,8 @@ followed_known σ good idle e f = tt
 followed_known σ good (opened s i) e f = (f.sapi, f.octets)
 
 module _ {L D K : Type 0} (onward : L → List ℕ → List ℕ) (back : D → List ℕ → List ℕ) (owes : K → List ℕ → List ℕ) (passes : K → List ℕ → Bool) (owed : List ℕ → List ℕ) (good : List ℕ → Bool) (width : ℕ) where
-  within : (r : Receiver D K) → Within (terms r.ear.settings) (ear passes r.ear)
-  within r = rw length-take (omega (arith, r.ear.within))
+  within : (r : Receiver D K) → Within (terms r.settings) (ear passes r.ear)
+  within r = r.within
 
   module _ (start start' : List ℕ → List ℕ) (st : Start start start') (σ : Terms) (φ : Frame) (sent : List ℕ) (o : Octets sent)
       (l : Link L D K) (linked : Linked onward back owes passes owed good width start start' σ φ sent l)
@@ -102,7 +96,7 @@ module _ {L D K : Type 0} (onward : L → List ℕ → List ℕ) (back : D → L
           let h = heard_call σ good (length buffer) enough owed owing tells wide φ κ (length stretch) (ear passes l.receiver.ear) w linked.follows allowed t taken in
           (h.all_used, h.report, h.follows)
 
-      raised_is : reported (terms l.receiver.ear.settings) good (length buffer) (ear passes l.receiver.ear) (back l.receiver.line ys) ≡ first (entered σ φ κ)
+      raised_is : reported (terms l.receiver.settings) good (length buffer) (ear passes l.receiver.ear) (back l.receiver.line ys) ≡ first (entered σ φ κ)
       raised_is = ap₂ (λ s x. reported s good (length buffer) (ear passes l.receiver.ear) x) linked.settings comes_back ∙ first_of _ _ whole.1
 
       pub report_is : report ≡ option_map report_of (first (entered σ φ κ))
@@ -136,7 +130,7 @@ module _ {L D K : Type 0} (onward : L → List ℕ → List ℕ) (back : D → L
 
   -- a new sender and a new receiver stand between frames
   pub linked_new : ((a : L) → Rule (onward a)) → (s : Settings) (a : L) (b : D) (i : Idle L K) (r : Receiver D K)
-      → (terms s).width ≡ width → i.settings ≡ s → i.line ≡ a → r.line ≡ b → r.ear.settings ≡ s → AlikeEars (ear passes r.ear) (hunting good)
+      → (terms s).width ≡ width → i.settings ≡ s → i.line ≡ a → r.line ≡ b → r.settings ≡ s → AlikeEars (ear passes r.ear) (hunting good)
       → Linked onward back owes passes owed good width (onward a) (back b) (terms s) idle [] (record { sender = sender.Idle i; receiver = r })
   linked_new sends s a b i r w is il rl rs h = record {
     stands = (ap terms is, λ xs ox. ap (λ l. onward l xs) il);
@@ -150,18 +144,18 @@ module _ {L D K : Type 0} (onward : L → List ℕ → List ℕ) (back : D → L
   module _ (owing : Owes width owed) (tells : Tells width owed good) (wide : Width width) (κ : Call) (t : Typed κ)
       (l : Link L D K) (stretch : List ℕ) (s' : Sender L K) (stretch' : List ℕ) (buffer : List ℕ) where
     -- it wrote n octets, which the receiver heard
-    pub written : (n : ℕ) → CallsOn onward owes owed κ l.sender stretch s' stretch' (answer.Written n)
+    pub written : (n : ℕ) → CallsOn onward owes owed κ l.sender stretch s' stretch' (Ok n)
         → (r' : Receiver D K) (buffer' : List ℕ) (report : Option Report) → HearsFront back passes good l.receiver stretch' n buffer r' buffer' report
-        → Exchanges onward back owes passes owed good width κ l stretch buffer (record { sender = s'; receiver = r' }) stretch' buffer' (answer.Written n) report
+        → Exchanges onward back owes passes owed good width κ l stretch buffer (record { sender = s'; receiver = r' }) stretch' buffer' (Ok n) report
     written n called r' buffer' report hears start start' st σ φ sent o enough linked =
         go (allows φ κ) refl (called start σ φ sent (followed_known σ good φ (ear passes l.receiver.ear) linked.follows) linked.stands)
       where
         Goal : Bool → Type 0
-        Goal b = IfPermitted onward back owes passes owed good width b start start' σ φ sent κ l stretch buffer (record { sender = s'; receiver = r' }) stretch' buffer' (answer.Written n) report
+        Goal b = IfPermitted onward back owes passes owed good width b start start' σ φ sent κ l stretch buffer (record { sender = s'; receiver = r' }) stretch' buffer' (Ok n) report
 
         taken : allows φ κ ≡ true → (v : Option Refusal) → refused σ owed φ κ (length stretch) ≡ v
-            → Driven onward owes owed start σ φ sent κ v l.sender stretch s' stretch' (answer.Written n)
-            → Exchanged onward back owes passes owed good width start start' σ φ sent κ v l stretch buffer (record { sender = s'; receiver = r' }) stretch' buffer' (answer.Written n) report
+            → Driven onward owes owed start σ φ sent κ v l.sender stretch s' stretch' (Ok n)
+            → Exchanged onward back owes passes owed good width start start' σ φ sent κ v l stretch buffer (record { sender = s'; receiver = r' }) stretch' buffer' (Ok n) report
         taken allowed None u d =
             let os = octets owed φ κ in
             let line = after start sent os in
@@ -177,14 +171,14 @@ module _ {L D K : Type 0} (onward : L → List ℕ → List ℕ) (back : D → L
               delivery_is start start' st σ φ sent o l linked owing tells wide κ allowed t stretch u buffer enough r' buffer' heard.0 report fed,
               linked_on start start' st σ φ sent o l linked owing tells wide κ allowed t stretch u buffer enough r' buffer' heard.0 report fed s' d.2,
             )
-        taken allowed (Some x) u d = absurd (written≢refused d.0)
+        taken allowed (Some x) u d = absurd (written≢turned d.0)
 
-        go : (b : Bool) → allows φ κ ≡ b → IfAllowed onward owes owed b start σ φ sent κ l.sender stretch s' stretch' (answer.Written n) → Goal b
+        go : (b : Bool) → allows φ κ ≡ b → IfAllowed onward owes owed b start σ φ sent κ l.sender stretch s' stretch' (Ok n) → Goal b
         go true a d = taken a (refused σ owed φ κ (length stretch)) refl d
-        go false a d = absurd (written≢not_allowed d.0)
+        go false a d = absurd (written≢turned d.0)
 
     -- it wrote nothing
-    pub unwritten : (a : Answer) → ((n : ℕ) → a ≡ answer.Written n → ⊥) → CallsOn onward owes owed κ l.sender stretch s' stretch' a
+    pub unwritten : (a : Answer) → ((n : ℕ) → a ≡ Ok n → ⊥) → CallsOn onward owes owed κ l.sender stretch s' stretch' a
         → Exchanges onward back owes passes owed good width κ l stretch buffer (record { sender = s'; receiver = l.receiver }) stretch' buffer a None
     unwritten a never called start start' st σ φ sent o enough linked =
         go (allows φ κ) (called start σ φ sent (followed_known σ good φ (ear passes l.receiver.ear) linked.follows) linked.stands)

@@ -1,4 +1,4 @@
-use crate::calls::Answer;
+use crate::answer::Answer;
 use sender::{Idle, Open};
 
 mod methods;

@@ -1,6 +1,6 @@
+use crate::answer::Answer;
 use crate::calling::Sender;
-use crate::calls::Answer;
-use frames::{Refusal, Report};
+use frames::Report;
 use receiver::Receiver;
 
 mod methods;
@@ -12,17 +12,10 @@ pub struct Link<L, D, K> {
     receiver: Receiver<D, K>,
 }
 
-// What the making of a link gives: a refused one gives the line codes back.
-#[derive(Drop)]
-pub enum Joined<L, D, K> {
-    Link(Link<L, D, K>),
-    Refused(L, D, Refusal),
-}
-
 // A link after a call: what the call was answered, and what the receiver reported of it.
 #[derive(Drop)]
 pub struct Stepped<L, D, K> {
     pub link: Link<L, D, K>,
     pub answer: Answer,
-    pub report: Option<Report>,
+    pub report: Option<Report<usize>>,
 }

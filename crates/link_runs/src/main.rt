@@ -4,41 +4,35 @@
 
 use checks::{Check, Fcs16, Fcs32};
 use codes::{LineCode, Mirrored, Pile, Scrambler, Straight};
-use exchange::{Exchanged, Lent, Run, exchange};
-use frames::{Report, Settings};
-use hearing::{Heard, Outcome};
-use link::{Answer, Joined, Link, Request, Stepped};
+use exchange::{Lent, Run, RunError, exchange};
+use frames::{Delivered, Faulty, Request, Settings};
+use hearing::Heard;
+use link::{Answer, Link, Stepped, TurnedDown};
 use std::io;
+use text::Hex;
 
 // room for the longest that a call here writes, the adaptation apart that is to be refused
 const ROOM: usize = 24;
 
-fn show_octets(rt: &HostRuntime, octets: &[u8]) -> io::Result<()> {
-    for octet in octets {
-        print!(rt; "{octet:02x}")?;
-    }
-    println!(rt; "")
-}
-
 fn show_answer(rt: &HostRuntime, answer: Answer) -> io::Result<()> {
     match answer {
-        Answer::Written(count) => print!(rt; " {count}"),
-        Answer::Refused(refusal) => {
+        Ok(written) => print!(rt; " {written}"),
+        Err(TurnedDown::Refused(refusal)) => {
             let number = refusal.number();
             print!(rt; " refused:{number}")
         }
-        Answer::NotAllowed => print!(rt; " not-allowed"),
+        Err(TurnedDown::NotAllowed) => print!(rt; " not-allowed"),
     }
 }
 
 fn show_heard(rt: &HostRuntime, heard: &Heard) -> io::Result<()> {
     let place = heard.place;
     match &heard.outcome {
-        Outcome::Delivered { sapi, information } => {
-            print!(rt; "at {place}: {sapi:04x} ")?;
-            show_octets(rt, information.as_slice())
+        Ok(Delivered { sapi, information }) => {
+            let octets = Hex(information.as_slice());
+            println!(rt; "at {place}: {sapi:04x} {octets}")
         }
-        Outcome::Faulty { fault, gathered } => {
+        Err(Faulty { fault, gathered }) => {
             let number = fault.number();
             println!(rt; "at {place}: fault {number}, {gathered}")
         }
@@ -51,8 +45,8 @@ fn show_run(rt: &HostRuntime, run: &Run) -> io::Result<()> {
         show_answer(rt, *answer)?;
     }
     println!(rt; "")?;
-    print!(rt; "line ")?;
-    show_octets(rt, run.line.as_slice())?;
+    let line = Hex(run.line.as_slice());
+    println!(rt; "line {line}")?;
     for heard in &run.reports {
         show_heard(rt, heard)?;
     }
@@ -61,63 +55,21 @@ fn show_run(rt: &HostRuntime, run: &Run) -> io::Result<()> {
 
 // Filling, a SAPI that is not served, a frame with the octets that need stuffing and the adaptation pair inside and between
 // them, an adaptation too long for its stretch, a call that is not allowed, an abort, and a spoiled frame.
-const CALLS: [Lent<'static>; 14] = [
-    Lent {
-        request: Request::Fill(2),
-        room: ROOM,
-    },
-    Lent {
-        request: Request::Open(0x1234),
-        room: ROOM,
-    },
-    Lent {
-        request: Request::Open(0x0021),
-        room: ROOM,
-    },
-    Lent {
-        request: Request::Add(&[0x7e, 0x7d, 0xdd]),
-        room: ROOM,
-    },
-    Lent {
-        request: Request::Adapt(3),
-        room: ROOM,
-    },
-    Lent {
-        request: Request::Adapt(13),
-        room: ROOM,
-    },
-    Lent {
-        request: Request::Add(&[0x00, 0xff]),
-        room: ROOM,
-    },
-    Lent {
-        request: Request::Open(0x0021),
-        room: ROOM,
-    },
-    Lent {
-        request: Request::Close,
-        room: ROOM,
-    },
-    Lent {
-        request: Request::Open(0x0057),
-        room: ROOM,
-    },
-    Lent {
-        request: Request::Add(&[0x60]),
-        room: ROOM,
-    },
-    Lent {
-        request: Request::Abort,
-        room: ROOM,
-    },
-    Lent {
-        request: Request::Open(0xfe01),
-        room: ROOM,
-    },
-    Lent {
-        request: Request::Spoil,
-        room: ROOM,
-    },
+const CALLS: [Request<&[u8]>; 14] = [
+    Request::Fill(2),
+    Request::Open(0x1234),
+    Request::Open(0x0021),
+    Request::Add(&[0x7e, 0x7d, 0xdd]),
+    Request::Adapt(3),
+    Request::Adapt(13),
+    Request::Add(&[0x00, 0xff]),
+    Request::Open(0x0021),
+    Request::Close,
+    Request::Open(0x0057),
+    Request::Add(&[0x60]),
+    Request::Abort,
+    Request::Open(0xfe01),
+    Request::Spoil,
 ];
 
 // The far end hears the line by a stretch of one octet, an empty one, one of five, and the rest.
@@ -132,12 +84,17 @@ fn run<L: LineCode + Drop, D: LineCode + Drop, K: Check + Drop>(
     let Ok(settings) = Settings::new(7, 1600, width) else {
         return Ok(());
     };
-    match exchange::<L, D, K>(rt.alloc(), settings, near, far, &CALLS, &[1, 0, 5])? {
-        Exchanged::Run(run) => show_run(rt, &run),
-        Exchanged::Refused(refusal) => {
+    let calls = CALLS.map(|request| Lent {
+        request,
+        room: ROOM,
+    });
+    match exchange::<L, D, K>(rt.alloc(), settings, near, far, &calls, &[1, 0, 5]) {
+        Ok(run) => show_run(rt, &run),
+        Err(RunError::Refused(refusal)) => {
             let number = refusal.number();
             println!(rt; "refused:{number}")
         }
+        Err(RunError::OutOfMemory(wanting)) => Err(wanting.into()),
     }
 }
 
@@ -146,8 +103,7 @@ fn short_delivery(rt: &HostRuntime) -> io::Result<()> {
     let Ok(settings) = Settings::new(7, 1600, 2) else {
         return Ok(());
     };
-    let Joined::Link(link) = Link::<Straight, Straight, Fcs16>::new(settings, Straight, Straight)
-    else {
+    let Ok(link) = Link::<Straight, Straight, Fcs16>::new(settings, Straight, Straight) else {
         return Ok(());
     };
     let mut stretch = [0xaa; ROOM];
@@ -160,11 +116,12 @@ fn short_delivery(rt: &HostRuntime) -> io::Result<()> {
         .link;
     let Stepped { report, .. } = link.call(Request::Close, &mut stretch, &mut delivery);
     print!(rt; "delivery of two octets: ")?;
-    if let Some(Report::Faulty { fault, gathered }) = report {
+    if let Some(Err(Faulty { fault, gathered })) = report {
         let number = fault.number();
         print!(rt; "fault {number}, {gathered}, ")?;
     }
-    show_octets(rt, &delivery)
+    let octets = Hex(&delivery);
+    println!(rt; "{octets}")
 }
 
 fn scrambler() -> Scrambler {

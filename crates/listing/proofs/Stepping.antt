@@ -1,5 +1,5 @@
 -- What a call's row says, from what the call over the link promises.
-use Rattle.std.proofs.Common.{◌≡◌, ℕ, ◌+◌, ◌≤◌, Bool, true, false, List, [], ◌∷◌, ◌++◌, length, take, drop, Some, None, Option, sym, refl, ap, ◌∙◌, subst, ap₂, arith, length-append}
+use Rattle.std.proofs.Common.{◌≡◌, ℕ, ◌≤◌, Bool, true, false, List, [], ◌∷◌, ◌++◌, length, take, drop, Some, None, Option, sym, refl, ap, ◌∙◌, subst, ap₂}
 use Rattle.std.proofs.lemmas.List.{take_at, append-nil, append_assoc}
 use Rattle.octets.specs.Octets.{Octets}
 use Rattle.octets.proofs.Joined.{octets_append}
@@ -7,25 +7,18 @@ use Rattle.codes.specs.Rules.{after}
 use Rattle.codes.specs.Remainders.{after_rule}
 use Rattle.checks.specs.Law.{Owes}
 use Rattle.frames.specs.declared.answers.Refusal.{Refusal}
-use Rattle.frames.specs.declared.answers.Report.{Report}
-use Rattle.frames.specs.Numbers.{refusal_number}
+use Rattle.frames.specs.Receiving.{Report}
 use Rattle.frames.specs.Terms.{Terms}
 use Rattle.frames.specs.Calls.{Call, Frame, allows, octets, next, refused, if_taken, Typed}
 use Rattle.frames.proofs.Lines.{call_octets}
 use Rattle.receiver.specs.Models.{ear}
-use Rattle.link.specs.declared.calls.Answer.TheVariants as answer
+use Rattle.link.specs.Answering.{Answer}
 use Rattle.link.specs.declared.link.Link.{Link}
 use Rattle.link.specs.Linked.{Exchanged, IfPermitted, Exchanges}
-use Rattle.link.proofs.Linking.{followed_known, written≢refused, written≢not_allowed, written_same}
-use Rattle.script.specs.Rows.{letter_of, report_row, unfit_row}
+use Rattle.link.proofs.Linking.{followed_known}
+use Rattle.script.specs.Rows.{letter_of, report_row}
 use Rattle.listing.specs.Listing.{call_row, allowed_row, allowed_frame, allowed_sent, line_row, line_frame, line_sent, rows}
-use Rattle.listing.specs.Steps.{At, Lists, ListsAll}
-
-refused≢not_allowed : {x : Refusal} → answer.Refused x ≡ answer.NotAllowed → ⊥
-refused≢not_allowed h = let z : ◌≡◌ {A = ℕ} 0 1 = cc in omega arith
-
-refused_same : {x y : Refusal} → answer.Refused x ≡ answer.Refused y → x ≡ y
-refused_same h = cc
+use Rattle.listing.specs.Steps.{answered_row, At, Lists, ListsAll}
 
 module _ {L D K : Type 0} (onward : L → List ℕ → List ℕ) (back : D → List ℕ → List ℕ) (owes : K → List ℕ → List ℕ) (passes : K → List ℕ → Bool) (owed : List ℕ → List ℕ) (good : List ℕ → Bool) (width : ℕ)
     (owing : Owes width owed) (κ : Call) (t : Typed κ) (l : Link L D K) (stretch buffer : List ℕ) (l' : Link L D K) (stretch' buffer' : List ℕ) where
@@ -43,75 +36,32 @@ module _ {L D K : Type 0} (onward : L → List ℕ → List ℕ) (back : D → L
     more_octets : Octets (octets owed φ κ)
     more_octets = call_octets owed owing.octets φ κ (followed_known σ good φ (ear passes l.receiver.ear) at.linked.follows) t
 
-    module _ (n : ℕ) (report : Option Report) (front : List ℕ) (is_front : n ≤ length stretch' → front ≡ take n stretch') where
-      wrote : (b : Bool) → IfPermitted onward back owes passes owed good width b start start' σ φ sent κ l stretch buffer l' stretch' buffer' (answer.Written n) report
-          → Noted b start start' σ φ sent (report_row (letter_of κ) 0 front report)
-      wrote true d = go (refused σ owed φ κ (length stretch)) d
+    module _ (a : Answer) (report : Option Report) where
+      noted : (b : Bool) → IfPermitted onward back owes passes owed good width b start start' σ φ sent κ l stretch buffer l' stretch' buffer' a report
+          → Noted b start start' σ φ sent (answered_row (letter_of κ) a stretch' report)
+      noted true d = go (refused σ owed φ κ (length stretch)) d
         where
-          go : (v : Option Refusal) → Exchanged onward back owes passes owed good width start start' σ φ sent κ v l stretch buffer l' stretch' buffer' (answer.Written n) report
-              → (report_row (letter_of κ) 0 front report ≡ call_row σ start owed (length stretch) φ sent κ v)
+          go : (v : Option Refusal) → Exchanged onward back owes passes owed good width start start' σ φ sent κ v l stretch buffer l' stretch' buffer' a report
+              → (answered_row (letter_of κ) a stretch' report ≡ call_row σ start owed (length stretch) φ sent κ v)
               × At onward back owes passes owed good width start start' σ (if_taken v (next φ κ) φ) (if_taken v (sent ++ octets owed φ κ) sent) l'
           go None x =
               let os = octets owed φ κ in
               let line = after start sent os in
-              let same : n ≡ length os = written_same x.0 in
               let long : length line ≡ length os = (after_rule start at.code.sends sent at.octets).long os more_octets in
-              let all : length stretch' ≡ length line + length (drop (length os) stretch) = ap length x.1 ∙ length-append line (drop (length os) stretch) in
-              let is : front ≡ line = is_front (omega arith) ∙ ap₂ take same x.1 ∙ take_at line (drop (length os) stretch) (length os) long in (
-                ap₂ (report_row (letter_of κ) 0) is x.2,
+              let is : take (length os) stretch' ≡ line = ap (take (length os)) x.1 ∙ take_at line (drop (length os) stretch) (length os) long in (
+                ap (λ z. answered_row (letter_of κ) z stretch' report) x.0 ∙ ap₂ (report_row (letter_of κ) 0) is x.2,
                 record { code = at.code; octets = octets_append sent os at.octets more_octets; linked = x.4 },
               )
-          go (Some y) x = absurd (written≢refused x.0)
-      wrote false d = absurd (written≢not_allowed d.0)
+          go (Some y) x = (ap (λ z. answered_row (letter_of κ) z stretch' report) x.0, same_link x.4)
+      noted false d = (ap (λ z. answered_row (letter_of κ) z stretch' report) d.0, same_link d.4)
 
-    module _ (r : Refusal) (report : Option Report) where
-      turned : (b : Bool) → IfPermitted onward back owes passes owed good width b start start' σ φ sent κ l stretch buffer l' stretch' buffer' (answer.Refused r) report
-          → Noted b start start' σ φ sent (report_row (letter_of κ) (refusal_number r) [] None)
-      turned true d = go (refused σ owed φ κ (length stretch)) d
-        where
-          go : (v : Option Refusal) → Exchanged onward back owes passes owed good width start start' σ φ sent κ v l stretch buffer l' stretch' buffer' (answer.Refused r) report
-              → (report_row (letter_of κ) (refusal_number r) [] None ≡ call_row σ start owed (length stretch) φ sent κ v)
-              × At onward back owes passes owed good width start start' σ (if_taken v (next φ κ) φ) (if_taken v (sent ++ octets owed φ κ) sent) l'
-          go None x = absurd (written≢refused (sym x.0))
-          go (Some y) x = (ap (λ z. report_row (letter_of κ) (refusal_number z) [] None) (refused_same x.0), same_link x.4)
-      turned false d = absurd (refused≢not_allowed d.0)
-
-    module _ (report : Option Report) where
-      barred : (b : Bool) → IfPermitted onward back owes passes owed good width b start start' σ φ sent κ l stretch buffer l' stretch' buffer' answer.NotAllowed report
-          → Noted b start start' σ φ sent unfit_row
-      barred true d = go (refused σ owed φ κ (length stretch)) d
-        where
-          go : (v : Option Refusal) → Exchanged onward back owes passes owed good width start start' σ φ sent κ v l stretch buffer l' stretch' buffer' answer.NotAllowed report
-              → (unfit_row ≡ call_row σ start owed (length stretch) φ sent κ v)
-              × At onward back owes passes owed good width start start' σ (if_taken v (next φ κ) φ) (if_taken v (sent ++ octets owed φ κ) sent) l'
-          go None x = absurd (written≢not_allowed (sym x.0))
-          go (Some y) x = absurd (refused≢not_allowed (sym x.0))
-      barred false d = (refl, same_link d.4)
-
-  module _ (out out' : List ℕ) where
-    pub lists_written : (n : ℕ) (report : Option Report) (front : List ℕ) → (n ≤ length stretch' → front ≡ take n stretch')
-        → Exchanges onward back owes passes owed good width κ l stretch buffer l' stretch' buffer' (answer.Written n) report
-        → out' ≡ out ++ report_row (letter_of κ) 0 front report
-        → Lists onward back owes passes owed good width (Some κ) (length stretch) (length buffer) l out l' out'
-    lists_written n report front f x e start start' σ φ sent shelf at =
-        let w = wrote start start' σ φ sent at n report front f (allows φ κ) (x start start' at.code σ φ sent at.octets shelf at.linked) in
-        (e ∙ ap (λ z. out ++ z) w.0, w.1)
-
-    pub lists_refused : (r : Refusal) (report : Option Report)
-        → Exchanges onward back owes passes owed good width κ l stretch buffer l' stretch' buffer' (answer.Refused r) report
-        → out' ≡ out ++ report_row (letter_of κ) (refusal_number r) [] None
-        → Lists onward back owes passes owed good width (Some κ) (length stretch) (length buffer) l out l' out'
-    lists_refused r report x e start start' σ φ sent shelf at =
-        let w = turned start start' σ φ sent at r report (allows φ κ) (x start start' at.code σ φ sent at.octets shelf at.linked) in
-        (e ∙ ap (λ z. out ++ z) w.0, w.1)
-
-    pub lists_barred : (report : Option Report)
-        → Exchanges onward back owes passes owed good width κ l stretch buffer l' stretch' buffer' answer.NotAllowed report
-        → out' ≡ out ++ unfit_row
-        → Lists onward back owes passes owed good width (Some κ) (length stretch) (length buffer) l out l' out'
-    lists_barred report x e start start' σ φ sent shelf at =
-        let w = barred start start' σ φ sent at report (allows φ κ) (x start start' at.code σ φ sent at.octets shelf at.linked) in
-        (e ∙ ap (λ z. out ++ z) w.0, w.1)
+  pub lists_answered : (out out' : List ℕ) (a : Answer) (report : Option Report)
+      → Exchanges onward back owes passes owed good width κ l stretch buffer l' stretch' buffer' a report
+      → out' ≡ out ++ answered_row (letter_of κ) a stretch' report
+      → Lists onward back owes passes owed good width (Some κ) (length stretch) (length buffer) l out l' out'
+  lists_answered out out' a report x e start start' σ φ sent shelf at =
+      let w = noted start start' σ φ sent at a report (allows φ κ) (x start start' at.code σ φ sent at.octets shelf at.linked) in
+      (e ∙ ap (λ z. out ++ z) w.0, w.1)
 
 -- the loop over the lines: what is left of the script gives the same
 module _ {L D K : Type 0} (onward : L → List ℕ → List ℕ) (back : D → List ℕ → List ℕ) (owes : K → List ℕ → List ℕ) (passes : K → List ℕ → Bool) (owed : List ℕ → List ℕ) (good : List ℕ → Bool) (width : ℕ)

@@ -9,7 +9,6 @@ use std::alloc::{AllocError, Global};
 
 mod ends;
 mod rows;
-mod run;
 
 // Runs a script over a sender and a receiver, and gives its listing.
 pub fn run_script(heap: Global, input: &[u8]) -> Result<Vec<u8>, AllocError>
@@ -18,8 +17,10 @@ pub fn run_script(heap: Global, input: &[u8]) -> Result<Vec<u8>, AllocError>
     let mut out = Vec::new(heap);
     push_names(&mut out)?;
     match behind_head(input) {
-        Some(text) => ends::list_text(heap, text, &mut out)?,
-        None => push_unfit(&mut out)?,
+        Some(text) => ends::list_text(text, out),
+        None => {
+            push_unfit(&mut out)?;
+            Ok(out)
+        }
     }
-    Ok(out)
 }

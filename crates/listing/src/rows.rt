@@ -1,85 +1,102 @@
-ghost use Rattle.std.specs.Prelude.{◌≡◌, ◌≤◌, length, take, IfOk, Some};
-ghost use Rattle.link.specs.Driving.{call_of_request};
-ghost use Rattle.listing.specs.Steps.{Lists};
-ghost use Rattle.script.specs.Requests.{request_call, line_of};
-ghost use Rattle.script.specs.Script.{line_call};
+ghost use Rattle.std.specs.Prelude.{◌≡◌, map, IfOk, Some, OnOk};
+ghost use Rattle.frames.specs.Of.{owned_call};
+ghost use Rattle.listing.specs.Listing.{settings, stretch_length};
+ghost use Rattle.listing.specs.Steps.{answered_row, Lists, ListsAll};
+ghost use Rattle.script.specs.Requests.{line_of};
+ghost use Rattle.script.specs.Rows.{row_text};
+ghost use Rattle.script.specs.Script.{lines, line_call};
 
 use checks::Check;
 use codes::LineCode;
-use link::{Answer, Link, Stepped};
-use script::{Line, Request, push_row, push_unfit, read_line};
-use std::alloc::{AllocError, Global};
+use frames::{Report, Request};
+use link::{Answer, Link, Stepped, TurnedDown};
+use octets::front;
+use script::{Line, Row, letter, next_line, push_row, push_unfit, read_line};
+use std::alloc::AllocError;
 
-// A script's request as a call of a sender.
-fn call_of(request: &Request) -> link::Request<'_>
-    ensures { call_of_request result ≡ request_call request.now }
-{
-    match request {
-        Request::Open(sapi) => link::Request::Open(*sapi),
-        Request::Add(octets) => link::Request::Add(octets.as_slice()),
-        Request::Adapt(count) => link::Request::Adapt(*count),
-        Request::Fill(count) => link::Request::Fill(*count),
-        Request::Close => link::Request::Close,
-        Request::Abort => link::Request::Abort,
-        Request::Spoil => link::Request::Spoil,
-    }
+pub const STRETCH: usize = 8192;
+
+pub const DELIVERY: usize = 1600;
+
+// What a run works with: what its calls write to, what its reports deliver to, and its listing so far.
+#[derive(Drop)]
+pub struct Bench {
+    pub stretch: [u8; STRETCH],
+    pub delivery: [u8; DELIVERY],
+    pub out: Vec<u8>,
 }
 
-// The first octets of a stretch, at most all of it.
-fn front(stretch: &[u8], count: usize) -> &[u8]
-    ensures { count ≤ length stretch.now → result.now ≡ take count stretch.now }
+// The row of a call by its letter, what it was answered and reported, and the stretch that it left.
+fn answered(letter: u8, answer: Answer, stretch: &[u8], report: Option<Report<usize>>) -> Row<'_>
+    ensures { row_text result ≡ answered_row letter answer stretch.now report }
 {
-    &stretch[0..count.min(stretch.len())]
-}
-
-// The row of a call: it is made at the sending end, and the receiving end hears what it writes.
-fn list_call<L: LineCode + Drop, D: LineCode + Drop, K: Check + Drop>(
-    link: Link<L, D, K>,
-    request: &Request,
-    stretch: &mut [u8],
-    delivery: &mut [u8],
-    out: &mut Vec<u8>,
-) -> Result<Link<L, D, K>, AllocError>
-    ensures { IfOk result (λ after. Lists L.LineCode.onward D.LineCode.back K.Check.owes K.Check.passes K.Check.owed K.Check.good K.Check.width (Some (request_call request.now)) (length stretch.old) (length delivery.old) link out.old.items after out.new.items) }
-{
-    let letter = request.letter();
-    let Stepped {
-        link,
-        answer,
-        report,
-    } = link.call(call_of(request), stretch, delivery);
     match answer {
-        Answer::Written(count) => {
-            push_row(out, letter, 0, front(stretch, count), report)?;
-            Ok(link)
-        }
-        Answer::Refused(refusal) => {
-            push_row(out, letter, refusal.number(), &[], None)?;
-            Ok(link)
-        }
-        Answer::NotAllowed => {
-            push_unfit(out)?;
-            Ok(link)
-        }
+        Ok(count) => Row {
+            letter,
+            answer: 0,
+            line: front(stretch, count),
+            report,
+        },
+        Err(TurnedDown::Refused(refusal)) => Row {
+            letter,
+            answer: refusal.number(),
+            line: &[],
+            report: None,
+        },
+        Err(TurnedDown::NotAllowed) => Row::unfit(),
     }
 }
 
-// The row of a line.
-pub fn list_line<L: LineCode + Drop, D: LineCode + Drop, K: Check + Drop>(
-    heap: Global,
-    link: Link<L, D, K>,
-    line: Line<'_>,
-    stretch: &mut [u8],
-    delivery: &mut [u8],
-    out: &mut Vec<u8>,
-) -> Result<Link<L, D, K>, AllocError>
-    ensures { IfOk result (λ after. Lists L.LineCode.onward D.LineCode.back K.Check.owes K.Check.passes K.Check.owed K.Check.good K.Check.width (line_call (line_of line.entry)) (length stretch.old) (length delivery.old) link out.old.items after out.new.items) }
-{
-    match read_line(heap, line)? {
-        Some(request) => list_call(link, &request, stretch, delivery, out),
-        None => {
-            push_unfit(out)?;
-            Ok(link)
+impl Bench {
+    // The row of a call: it is made at the sending end, and the receiving end hears what it writes.
+    fn list_call<L: LineCode + Drop, D: LineCode + Drop, K: Check + Drop>(
+        &mut self,
+        link: Link<L, D, K>,
+        request: &Request<Vec<u8>>,
+    ) -> Result<Link<L, D, K>, AllocError>
+        ensures { IfOk result (λ after. Lists L.LineCode.onward D.LineCode.back K.Check.owes K.Check.passes K.Check.owed K.Check.good K.Check.width (Some (owned_call request.now)) stretch_length settings.longest link self.old.out.items after self.new.out.items) }
+    {
+        let Stepped {
+            link,
+            answer,
+            report,
+        } = link.call(request.as_deref(), &mut self.stretch, &mut self.delivery);
+        let row = answered(letter(request), answer, &self.stretch, report);
+        push_row(&mut self.out, &row)?;
+        Ok(link)
+    }
+
+    // The row of a line.
+    fn list_line<L: LineCode + Drop, D: LineCode + Drop, K: Check + Drop>(
+        &mut self,
+        link: Link<L, D, K>,
+        line: Line<'_>,
+    ) -> Result<Link<L, D, K>, AllocError>
+        ensures { IfOk result (λ after. Lists L.LineCode.onward D.LineCode.back K.Check.owes K.Check.passes K.Check.owed K.Check.good K.Check.width (line_call (line_of line.entry)) stretch_length settings.longest link self.old.out.items after self.new.out.items) }
+    {
+        match read_line(*self.out.allocator(), line)? {
+            Some(request) => self.list_call(link, &request),
+            None => {
+                push_unfit(&mut self.out)?;
+                Ok(link)
+            }
         }
+    }
+
+    // The rows of all lines of a script.
+    pub fn list_lines<L: LineCode + Drop, D: LineCode + Drop, K: Check + Drop>(
+        &mut self,
+        link: Link<L, D, K>,
+        text: &[u8],
+    ) -> Result<(), AllocError>
+        ensures { OnOk result (ListsAll L.LineCode.onward D.LineCode.back K.Check.owes K.Check.passes K.Check.owed K.Check.good K.Check.width (map line_call (lines text.now)) stretch_length settings.longest link self.old.out.items self.new.out.items) }
+    {
+        let mut link = link;
+        let mut rest = text;
+        while let Some((line, further)) = next_line(rest) {
+            link = self.list_line(link, line)?;
+            rest = further;
+        }
+        Ok(())
     }
 }

@@ -1,3 +1,4 @@
 pub mod Halves
 pub mod Xor
 pub mod Joined
+pub mod Typed

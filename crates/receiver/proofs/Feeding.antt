@@ -1,22 +1,19 @@
 -- A feed, octet by octet: what is left of the stretch gives the same.
-use Rattle.std.proofs.Common.{◌≡◌, ℕ, suc, ◌+◌, ◌<◌, ◌≤◌, Bool, List, [], ◌∷◌, ◌++◌, length, get_or, take, drop, Some, None, Option, sym, refl, ap, ◌∙◌, ap₂, arith, w8, Fits}
+use Rattle.std.proofs.Common.{◌≡◌, ℕ, suc, ◌+◌, ◌<◌, ◌≤◌, Bool, List, [], ◌∷◌, ◌++◌, length, get_or, take, drop, Some, None, Option, sym, refl, ap, ◌∙◌, ap₂, arith}
 use Rattle.std.proofs.lemmas.List.{take_more, drop_more, drop_all, nil_from_length}
-use Rattle.std.proofs.ByRecursion.{All-get_or, All-from_get_or, All-take, All-drop}
+use Rattle.std.proofs.ByRecursion.{All-get_or, All-take, All-drop}
 use Rattle.octets.specs.Octets.{Octets}
 use Rattle.codes.specs.Rules.{Rule, Steps, Alike, after}
 use Rattle.codes.specs.Remainders.{answer_append, answer_nil, after_rule, after_after}
 use Rattle.frames.specs.Terms.{Terms}
 use Rattle.frames.specs.Calls.{Entry}
-use Rattle.frames.specs.Receiving.{Ear, moved, raised, used, reported, ear_after, report_of, delivered}
+use Rattle.frames.specs.Receiving.{Ear, Report, moved, raised, used, reported, ear_after, report_of, delivered}
 use Rattle.frames.proofs.Feeds.{ear_append}
-use Rattle.frames.specs.declared.answers.Report.{Report}
 use Rattle.frames.specs.Of.{terms}
 use Rattle.std.specs.Option.{option_map}
 use Rattle.receiver.specs.declared.receiver.Receiver.{Receiver}
-use Rattle.receiver.specs.Models.{ear, AlikeEars, Heard, First, first_of}
-
-pub same_ear : (e e' : Ear) → AlikeEars e e' → e ≡ e'
-same_ear e e' h = λ i. record { standing = h.standing i; gathered = h.gathered i; good_with = λ os. h.good_with os i }
+use Rattle.receiver.specs.Models.{ear, Heard, First, first_of}
+use Rattle.receiver.proofs.Ears.{same_ear, alike_ears}
 
 -- after i octets of a stretch and no report
 pub record Going (σ : Terms) (good : List ℕ → Bool) (room : ℕ) (f₀ : List ℕ → List ℕ) (e₀ : Ear) (xs : List ℕ) (f : List ℕ → List ℕ) (e : Ear) (i : ℕ) : Type 0 where
@@ -100,13 +97,6 @@ module _ (σ : Terms) (good : List ℕ → Bool) (room : ℕ) (f₀ : List ℕ �
       let n : i + 0 ≡ i = omega arith in
       (g.used_so ∙ ap (λ l. i + used σ good room e l) none ∙ n, g.reported_so ∙ ap (reported σ good room e) none)
 
--- the octets of a slice, as the checker knows them
-pub typed : (xs : List ℕ) → ((i : ℕ) → Fits w8 (get_or xs i 0)) → Octets xs
-typed xs h = All-from_get_or (λ x. x < 256) xs 0 (λ i n. omega (arith, h i))
-
-alike_ears : {e e' : Ear} → e ≡ e' → AlikeEars e e'
-alike_ears h = record { standing = ap (λ x. x.standing) h; gathered = ap (λ x. x.gathered) h; good_with = λ os. ap (λ x. x.good_with os) h }
-
 some≢none : {X : Type 0} {x : X} → Some x ≡ None → ⊥
 some≢none h = let z : ◌≡◌ {A = ℕ} 0 1 = cc in omega arith
 
@@ -121,18 +111,18 @@ reported_as (Some e) r h = (e, refl, cc)
 module _ {L K : Type 0} (back : L → List ℕ → List ℕ) (passes : K → List ℕ → Bool) (good : List ℕ → Bool) (laws : (l : L) → Rule (back l)) where
   -- the loop of a feed: i octets heard, none of which raised a report
   pub record Run (r₀ : Receiver L K) (xs buffer : List ℕ) (r : Receiver L K) (buffer' : List ℕ) (i : ℕ) : Type 0 where
-    pub going : Going (terms r₀.ear.settings) good (length buffer) (back r₀.line) (ear passes r₀.ear) xs (back r.line) (ear passes r.ear) i
+    pub going : Going (terms r₀.settings) good (length buffer) (back r₀.line) (ear passes r₀.ear) xs (back r.line) (ear passes r.ear) i
     pub untouched : buffer' ≡ buffer
-    pub settings : r.ear.settings ≡ r₀.ear.settings
+    pub settings : r.settings ≡ r₀.settings
 
   module _ (r₀ : Receiver L K) (xs buffer : List ℕ) (o : Octets xs) where
     pub run_none : Run r₀ xs buffer r₀ buffer 0
-    run_none = record { going = going_none (terms r₀.ear.settings) good (length buffer) (back r₀.line) (laws r₀.line) (ear passes r₀.ear) xs o; untouched = refl; settings = refl }
+    run_none = record { going = going_none (terms r₀.settings) good (length buffer) (back r₀.line) (laws r₀.line) (ear passes r₀.ear) xs o; untouched = refl; settings = refl }
 
     module _ (r : Receiver L K) (buffer' : List ℕ) (i : ℕ) (run : Run r₀ xs buffer r buffer' i) where
       pub run_all : length xs ≤ i → i ≤ length xs → First back passes good r₀ xs buffer r buffer' None
       run_all past inside =
-          let end = going_all (terms r₀.ear.settings) good (length buffer) (back r₀.line) (laws r₀.line) (ear passes r₀.ear) xs o (back r.line) (ear passes r.ear) i (laws r.line) past run.going in
+          let end = going_all (terms r₀.settings) good (length buffer) (back r₀.line) (laws r₀.line) (ear passes r₀.ear) xs o (back r.line) (ear passes r.ear) i (laws r.line) past run.going in
           let all : i ≡ length xs = omega arith in
           record {
             found_is = sym (ap₂ first_of end.0 end.1);
@@ -143,27 +133,27 @@ module _ {L K : Type 0} (back : L → List ℕ → List ℕ) (passes : K → Lis
 
       module _ (inside : i < length xs) (r' : Receiver L K) (buffer'' : List ℕ) (report : Option Report)
           (h : Heard back passes good r (get_or xs i 0) buffer' r' buffer'' report) where
-        same_raised : raised (terms r₀.ear.settings) (length buffer) (ear passes r.ear) h.answer ≡ raised (terms r.ear.settings) (length buffer') (ear passes r.ear) h.answer
+        same_raised : raised (terms r₀.settings) (length buffer) (ear passes r.ear) h.answer ≡ raised (terms r.settings) (length buffer') (ear passes r.ear) h.answer
         same_raised = ap₂ (λ s b. raised (terms s) (length b) (ear passes r.ear) h.answer) (sym run.settings) (sym run.untouched)
 
-        moves_on : ear passes r'.ear ≡ moved (terms r₀.ear.settings) good (ear passes r.ear) h.answer
+        moves_on : ear passes r'.ear ≡ moved (terms r₀.settings) good (ear passes r.ear) h.answer
         moves_on = same_ear _ _ h.moves ∙ ap (λ s. moved (terms s) good (ear passes r.ear) h.answer) run.settings
 
         pub run_more : report ≡ None → Run r₀ xs buffer r' buffer'' (i + 1)
         run_more none =
-            let quiet = unreported (raised (terms r.ear.settings) (length buffer') (ear passes r.ear) h.answer) (sym none ∙ h.reports) in
+            let quiet = unreported (raised (terms r.settings) (length buffer') (ear passes r.ear) h.answer) (sym none ∙ h.reports) in
             record {
-              going = going_more (terms r₀.ear.settings) good (length buffer) (back r₀.line) (laws r₀.line) (ear passes r₀.ear) xs o (back r.line) (back r'.line) (ear passes r.ear) i h.answer inside h.steps run.going (ear passes r'.ear) moves_on (same_raised ∙ quiet);
+              going = going_more (terms r₀.settings) good (length buffer) (back r₀.line) (laws r₀.line) (ear passes r₀.ear) xs o (back r.line) (back r'.line) (ear passes r.ear) i h.answer inside h.steps run.going (ear passes r'.ear) moves_on (same_raised ∙ quiet);
               untouched = h.delivers ∙ ap (λ v. delivered v buffer') quiet ∙ run.untouched;
               settings = h.settings ∙ run.settings;
             }
 
         pub run_stops : (x : Report) → report ≡ Some x → First back passes good r₀ xs buffer r' buffer'' (Some (i + 1, x))
         run_stops x some =
-            let seen = reported_as (raised (terms r.ear.settings) (length buffer') (ear passes r.ear) h.answer) x (sym some ∙ h.reports) in
-            let stops = going_stops (terms r₀.ear.settings) good (length buffer) (back r₀.line) (laws r₀.line) (ear passes r₀.ear) xs o (back r.line) (back r'.line) (ear passes r.ear) i h.answer inside h.steps run.going seen.0 (same_raised ∙ seen.1) in
-            let on = next_ear (terms r₀.ear.settings) good (length buffer) (back r₀.line) (laws r₀.line) (ear passes r₀.ear) xs o (back r.line) (back r'.line) (ear passes r.ear) i h.answer inside h.steps run.going in
-            let along = next_back (terms r₀.ear.settings) good (length buffer) (back r₀.line) (laws r₀.line) (ear passes r₀.ear) xs o (back r.line) (back r'.line) (ear passes r.ear) i h.answer inside h.steps run.going in
+            let seen = reported_as (raised (terms r.settings) (length buffer') (ear passes r.ear) h.answer) x (sym some ∙ h.reports) in
+            let stops = going_stops (terms r₀.settings) good (length buffer) (back r₀.line) (laws r₀.line) (ear passes r₀.ear) xs o (back r.line) (back r'.line) (ear passes r.ear) i h.answer inside h.steps run.going seen.0 (same_raised ∙ seen.1) in
+            let on = next_ear (terms r₀.settings) good (length buffer) (back r₀.line) (laws r₀.line) (ear passes r₀.ear) xs o (back r.line) (back r'.line) (ear passes r.ear) i h.answer inside h.steps run.going in
+            let along = next_back (terms r₀.settings) good (length buffer) (back r₀.line) (laws r₀.line) (ear passes r₀.ear) xs o (back r.line) (back r'.line) (ear passes r.ear) i h.answer inside h.steps run.going in
             record {
               found_is = ap (λ z. Some (i + 1, z)) seen.2 ∙ sym (ap₂ first_of stops.0 stops.1);
               else_all = λ e. absurd (some≢none e);

@@ -2,7 +2,8 @@
 #![tactic(auto)]
 
 mod ear;
+mod gathered;
 mod judge;
 mod receiver;
 
-pub use receiver::{Made, Receiver};
+pub use receiver::Receiver;

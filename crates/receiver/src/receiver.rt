@@ -1,18 +1,17 @@
+ghost use Rattle.std.specs.Prelude.{◌≤◌, length};
+ghost use Rattle.frames.specs.Of.{terms};
+ghost use Rattle.frames.specs.Terms.{limit};
+
 use crate::ear::Gatherer;
-use frames::Refusal;
+use frames::Settings;
 
 mod methods;
 
-// A receiver over a line code and a kind of check.
+// A receiver over a line code and a kind of check. No more is gathered than a good frame has.
 #[derive(Drop)]
 pub struct Receiver<L, K> {
+    settings: Settings,
     line: L,
     ear: Gatherer<K>,
-}
-
-// What the making of a receiver gives: a refused one gives the line code back.
-#[derive(Drop)]
-pub enum Made<L, K> {
-    Receiver(Receiver<L, K>),
-    Refused(L, Refusal),
+    ghost within: { length ear.gathered ≤ limit (terms settings) },
 }

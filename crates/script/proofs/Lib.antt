@@ -1,4 +1,3 @@
 pub mod Ends
 pub mod Readings
-pub mod Stripped
 pub mod Examples

@@ -1,18 +1,7 @@
--- What a line and a SAPI read as, by the octets at their places.
-use Rattle.std.proofs.Common.{◌≡◌, ℕ, ◌+◌, ◌-◌, ◌*◌, ◌≤◌, cond, List, [], ◌∷◌, length, get_or, take, drop, Some, None, Option, sym, refl, ap, ◌∙◌, arith}
-use Rattle.std.proofs.lemmas.List.{take_rest}
-use Rattle.std.proofs.lemmas.Bool.{eq-eqb}
+-- What a SAPI reads as, by the octets at its places.
+use Rattle.std.proofs.Common.{◌≡◌, ℕ, ◌+◌, ◌*◌, List, [], ◌∷◌, length, get_or, Some, None, Option, refl, arith}
 use Rattle.text.specs.Hex.{digit_value, both, behind, unhex}
-use Rattle.script.specs.declared.kind.Kind.{Kind}
-use Rattle.script.specs.Script.{comma, kind_of, call_with, read_call, word}
-
-pub called : (line : List ℕ) (k : Option Kind) → 2 ≤ length line → get_or line 1 0 ≡ comma → k ≡ kind_of (get_or line 0 0)
-    → call_with k (take (length line - 2) (drop 2 line)) ≡ read_call line
-called [] k h e p = absurd (omega arith)
-called (l ∷ []) k h e p = absurd (omega arith)
-called (l ∷ c ∷ value) k h e p =
-    ap (call_with k) (take_rest (l ∷ c ∷ value) 2) ∙ ap (λ k'. call_with k' value) p
-    ∙ sym (ap (λ b. cond b (call_with (kind_of l) value) None) (eq-eqb c comma e))
+use Rattle.script.specs.Script.{word}
 
 -- two octets as one number, where both are there
 abbrev pub of_two : Option ℕ → Option ℕ → Option ℕ

@@ -42,8 +42,8 @@ EndsAt i os =
     × (lines os ≡ ended (between 0 i os) ∷ lines (between (i + 1) (length os) os))
 
 -- nothing ends the only line of a text
-abbrev pub Unended : List ℕ → Type 0
-Unended os = 0 < length os → lines os ≡ unended ∷ []
+abbrev pub NeverEnds : List ℕ → Type 0
+NeverEnds os = 0 < length os → lines os ≡ unended ∷ []
 
 -- the letter of each kind of call
 abbrev pub letter : Kind → ℕ

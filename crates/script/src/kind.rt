@@ -1,8 +1,9 @@
 ghost use Rattle.std.specs.Prelude.{◌≡◌};
+ghost use Rattle.std.specs.Result.{result_ok};
 ghost use Rattle.script.specs.Script.{kind_of};
 
 // What a line of a script asks for.
-#[derive(Clone, Copy)]
+#[derive(Clone, Copy, Debug, PartialEq, Eq)]
 pub enum Kind {
     Open,
     Add,
@@ -13,20 +14,26 @@ pub enum Kind {
     Spoil,
 }
 
-impl Kind {
-    // by the letter at the head of the line
-    pub fn of(code: u8) -> Option<Kind>
-        ensures { result ≡ kind_of code }
-    {
-        match code as char {
-            'O' => Some(Kind::Open),
-            'I' => Some(Kind::Add),
-            'R' => Some(Kind::Adapt),
-            'N' => Some(Kind::Fill),
-            'C' => Some(Kind::Close),
-            'X' => Some(Kind::Abort),
-            'S' => Some(Kind::Spoil),
-            _ => None,
+// A letter that no kind has.
+#[derive(Clone, Copy, Debug, PartialEq, Eq)]
+pub struct UnknownLetter;
+
+// By the letter at the head of the line.
+impl TryFrom<u8> for Kind {
+    type Error = UnknownLetter;
+
+    ghost try_from_gives = { λ letter kind. result_ok kind ≡ kind_of letter };
+
+    fn try_from(letter: u8) -> Result<Self, UnknownLetter> {
+        match letter as char {
+            'O' => Ok(Kind::Open),
+            'I' => Ok(Kind::Add),
+            'R' => Ok(Kind::Adapt),
+            'N' => Ok(Kind::Fill),
+            'C' => Ok(Kind::Close),
+            'X' => Ok(Kind::Abort),
+            'S' => Ok(Kind::Spoil),
+            _ => Err(UnknownLetter),
         }
     }
 }

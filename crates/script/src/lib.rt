@@ -7,8 +7,8 @@ mod parse;
 mod request;
 mod rows;
 
-pub use kind::Kind;
-pub use lines::{Line, next_line};
+pub use kind::{Kind, UnknownLetter};
+pub use lines::{Line, Unended, next_line};
 pub use parse::{behind_head, parse_line, read_line};
-pub use request::Request;
-pub use rows::{push_names, push_row, push_unfit};
+pub use request::letter;
+pub use rows::{Row, push_names, push_row, push_unfit};

@@ -1,12 +1,13 @@
 ghost use Rattle.std.specs.Prelude.{◌≡◌, IfOk, Some};
-ghost use Rattle.script.specs.Requests.{request_call, line_of};
-ghost use Rattle.script.specs.Script.{word, bare, call_with, read_call, line_call, stripped_head, after_head};
 ghost use Rattle.std.specs.Option.{option_map};
+ghost use Rattle.frames.specs.Of.{owned_call};
+ghost use Rattle.script.specs.Requests.{line_of};
+ghost use Rattle.script.specs.Script.{word, bare, call_with, read_call, line_call, stripped_head, after_head};
 ghost use Rattle.text.specs.Hex.{unhex};
 
-use crate::kind::Kind;
-use crate::lines::Line;
-use crate::request::Request;
+use crate::kind::{Kind, UnknownLetter};
+use crate::lines::{Line, Unended};
+use frames::Request;
 use std::alloc::{AllocError, Global};
 use text::{octet_value, parse_decimal, parse_hex};
 
@@ -27,77 +28,52 @@ fn parse_sapi(value: &[u8]) -> Option<u16>
     Some(u16::from_be_bytes([high, low]))
 }
 
-fn open(value: &[u8]) -> Option<Request>
-    ensures { option_map request_call result ≡ call_with (Some Kind.Open) value.now }
-{
-    Some(Request::Open(parse_sapi(value)?))
-}
-
-fn add(heap: Global, value: &[u8]) -> Result<Option<Request>, AllocError>
-    ensures { IfOk result (λ q. option_map request_call q ≡ call_with (Some Kind.Add) value.now) }
-{
-    let Some(octets) = parse_hex(heap, value)? else {
-        return Ok(None);
-    };
-    Ok(Some(Request::Add(octets)))
-}
-
-fn adapt(value: &[u8]) -> Option<Request>
-    ensures { option_map request_call result ≡ call_with (Some Kind.Adapt) value.now }
-{
-    Some(Request::Adapt(parse_decimal(value)?))
-}
-
-fn fill(value: &[u8]) -> Option<Request>
-    ensures { option_map request_call result ≡ call_with (Some Kind.Fill) value.now }
-{
-    Some(Request::Fill(parse_decimal(value)?))
-}
-
 // A request that takes no value.
-fn alone(request: Request, value: &[u8]) -> Option<Request>
-    ensures { option_map request_call result ≡ bare (request_call request) value.now }
+fn alone(request: Request<Vec<u8>>, value: &[u8]) -> Option<Request<Vec<u8>>>
+    ensures { option_map owned_call result ≡ bare (owned_call request) value.now }
 {
-    match value {
-        [] => Some(request),
-        _ => None,
-    }
+    value.is_empty().then_some(request)
 }
 
-fn request_of(heap: Global, kind: Kind, value: &[u8]) -> Result<Option<Request>, AllocError>
-    ensures { IfOk result (λ q. option_map request_call q ≡ call_with (Some kind) value.now) }
+fn request_of(
+    heap: Global,
+    kind: Kind,
+    value: &[u8],
+) -> Result<Option<Request<Vec<u8>>>, AllocError>
+    ensures { IfOk result (λ q. option_map owned_call q ≡ call_with (Some kind) value.now) }
 {
-    match kind {
-        Kind::Open => Ok(open(value)),
-        Kind::Add => add(heap, value),
-        Kind::Adapt => Ok(adapt(value)),
-        Kind::Fill => Ok(fill(value)),
-        Kind::Close => Ok(alone(Request::Close, value)),
-        Kind::Abort => Ok(alone(Request::Abort, value)),
-        Kind::Spoil => Ok(alone(Request::Spoil, value)),
-    }
+    let request = match kind {
+        Kind::Open => parse_sapi(value).map(Request::Open),
+        Kind::Add => parse_hex(heap, value)?.map(Request::Add),
+        Kind::Adapt => parse_decimal(value).map(Request::Adapt),
+        Kind::Fill => parse_decimal(value).map(Request::Fill),
+        Kind::Close => alone(Request::Close, value),
+        Kind::Abort => alone(Request::Abort, value),
+        Kind::Spoil => alone(Request::Spoil, value),
+    };
+    Ok(request)
 }
 
 // The call that a line's octets ask for: its letter, a comma and its value.
-pub fn parse_line(heap: Global, line: &[u8]) -> Result<Option<Request>, AllocError>
-    ensures { IfOk result (λ q. option_map request_call q ≡ read_call line.now) }
+pub fn parse_line(heap: Global, line: &[u8]) -> Result<Option<Request<Vec<u8>>>, AllocError>
+    ensures { IfOk result (λ q. option_map owned_call q ≡ read_call line.now) }
 {
     let [letter, COMMA, value @ ..] = line else {
         return Ok(None);
     };
-    match Kind::of(*letter) {
-        Some(kind) => request_of(heap, kind, value),
-        None => Ok(None),
+    match Kind::try_from(*letter) {
+        Ok(kind) => request_of(heap, kind, value),
+        Err(UnknownLetter) => Ok(None),
     }
 }
 
 // The call that a line asks for; none if nothing ends it.
-pub fn read_line(heap: Global, line: Line<'_>) -> Result<Option<Request>, AllocError>
-    ensures { IfOk result (λ q. option_map request_call q ≡ line_call (line_of line.entry)) }
+pub fn read_line(heap: Global, line: Line<'_>) -> Result<Option<Request<Vec<u8>>>, AllocError>
+    ensures { IfOk result (λ q. option_map owned_call q ≡ line_call (line_of line.entry)) }
 {
     match line {
-        Line::Ended(octets) => parse_line(heap, octets),
-        Line::Unended => Ok(None),
+        Ok(octets) => parse_line(heap, octets),
+        Err(Unended) => Ok(None),
     }
 }
 

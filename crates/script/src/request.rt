@@ -1,32 +1,20 @@
 ghost use Rattle.std.specs.Prelude.{◌≡◌};
-ghost use Rattle.script.specs.Requests.{request_call};
+ghost use Rattle.frames.specs.Of.{owned_call};
 ghost use Rattle.script.specs.Rows.{letter_of};
 
-// A call with its value, as a line of a script gives it.
-#[derive(Drop)]
-pub enum Request {
-    Open(u16),
-    Add(Vec<u8>),
-    Adapt(u16),
-    Fill(u16),
-    Close,
-    Abort,
-    Spoil,
-}
+use frames::Request;
 
-impl Request {
-    // as a listing has it
-    pub fn letter(&self) -> u8
-        ensures { result ≡ letter_of (request_call self.now) }
-    {
-        match self {
-            Request::Open(_) => b'O',
-            Request::Add(_) => b'I',
-            Request::Adapt(_) => b'R',
-            Request::Fill(_) => b'N',
-            Request::Close => b'C',
-            Request::Abort => b'X',
-            Request::Spoil => b'S',
-        }
+// A request's letter, as a listing has it. A `match`, since a case that holds a value cannot be cast to a number.
+pub fn letter(request: &Request<Vec<u8>>) -> u8
+    ensures { result ≡ letter_of (owned_call request.now) }
+{
+    match request {
+        Request::Open(_) => b'O',
+        Request::Add(_) => b'I',
+        Request::Adapt(_) => b'R',
+        Request::Fill(_) => b'N',
+        Request::Close => b'C',
+        Request::Abort => b'X',
+        Request::Spoil => b'S',
     }
 }

@@ -1,7 +1,7 @@
-ghost use Rattle.std.specs.Prelude.{◌≡◌, ◌++◌, is_ok, IfOk, if◌then◌else◌, Some};
-ghost use Rattle.script.specs.Rows.{fields_of_report, report_row, unfit_row, names_line};
+ghost use Rattle.std.specs.Prelude.{◌≡◌, ◌++◌, is_ok, IfOk, if◌then◌else◌, Some, Ok, Err};
+ghost use Rattle.script.specs.Rows.{fields_of_report, row_text, unfit_row, names_line};
 
-use frames::{Fault, Report};
+use frames::{Delivered, Faulty, Report};
 use std::alloc::{AllocError, Global};
 use text::{push_decimal, push_hex};
 
@@ -10,76 +10,88 @@ const UNFIT: u8 = b'?';
 
 const UNFIT_NUMBER: u8 = 31;
 
-fn delivered_fields(heap: Global, sapi: u16, length: usize) -> Result<Vec<u8>, AllocError>
-    ensures { IfOk result (λ v. v.items ≡ fields_of_report (Some (Report.Delivered sapi length))) }
+// A call's row: its letter, the number of its answer, the octets that it put on the line and the report that they
+// raised. Letter and number are as the listing has them, and may be any, so they are no enums.
+#[derive(Clone, Copy, Debug, PartialEq, Eq)]
+pub struct Row<'a> {
+    pub letter: u8,
+    pub answer: u8,
+    pub line: &'a [u8],
+    pub report: Option<Report<usize>>,
+}
+
+impl Row<'_> {
+    // The row of an unfit line.
+    pub fn unfit() -> Row<'static>
+        ensures { row_text result ≡ unfit_row }
+    {
+        Row {
+            letter: UNFIT,
+            answer: UNFIT_NUMBER,
+            line: &[],
+            report: None,
+        }
+    }
+}
+
+fn delivered_fields(heap: Global, delivered: Delivered<usize>) -> Result<Vec<u8>, AllocError>
+    ensures { IfOk result (λ v. v.items ≡ fields_of_report (Some (Ok delivered))) }
 {
     let mut fields = Vec::from_slice(heap, b"D,0,")?;
-    push_hex(&mut fields, &sapi.to_be_bytes())?;
+    push_hex(&mut fields, &delivered.sapi.to_be_bytes())?;
     fields.extend_from_slice(b",")?;
-    push_decimal(&mut fields, length)?;
+    push_decimal(&mut fields, delivered.information)?;
     Ok(fields)
 }
 
-fn faulty_fields(heap: Global, fault: Fault, gathered: usize) -> Result<Vec<u8>, AllocError>
-    ensures { IfOk result (λ v. v.items ≡ fields_of_report (Some (Report.Faulty fault gathered))) }
+fn faulty_fields(heap: Global, faulty: Faulty) -> Result<Vec<u8>, AllocError>
+    ensures { IfOk result (λ v. v.items ≡ fields_of_report (Some (Err faulty))) }
 {
     let mut fields = Vec::from_slice(heap, b"F,")?;
-    push_decimal(&mut fields, usize::from(fault.number()))?;
+    push_decimal(&mut fields, usize::from(faulty.fault.number()))?;
     fields.extend_from_slice(b",-,")?;
-    push_decimal(&mut fields, gathered)?;
+    push_decimal(&mut fields, faulty.gathered)?;
     Ok(fields)
 }
 
-fn report_fields(heap: Global, report: Option<Report>) -> Result<Vec<u8>, AllocError>
+fn report_fields(heap: Global, report: Option<Report<usize>>) -> Result<Vec<u8>, AllocError>
     ensures { IfOk result (λ v. v.items ≡ fields_of_report report) }
 {
     match report {
         None => Vec::from_slice(heap, b"-,-,-,-"),
-        Some(Report::Delivered { sapi, length }) => delivered_fields(heap, sapi, length),
-        Some(Report::Faulty { fault, gathered }) => faulty_fields(heap, fault, gathered),
+        Some(Ok(delivered)) => delivered_fields(heap, delivered),
+        Some(Err(faulty)) => faulty_fields(heap, faulty),
     }
 }
 
-fn row_of(
-    heap: Global,
-    name: u8,
-    answer: u8,
-    line: &[u8],
-    report: Option<Report>,
-) -> Result<Vec<u8>, AllocError>
-    ensures { IfOk result (λ v. v.items ≡ report_row name answer line.now report) }
+// A row's octets. It is no `Display`: a letter may be any octet, and text cannot hold each.
+fn text_of(heap: Global, row: &Row<'_>) -> Result<Vec<u8>, AllocError>
+    ensures { IfOk result (λ v. v.items ≡ row_text row.now) }
 {
-    let mut row = Vec::from_slice(heap, &[name, b','])?;
-    push_decimal(&mut row, usize::from(answer))?;
-    row.extend_from_slice(b",")?;
-    push_hex(&mut row, line)?;
-    row.extend_from_slice(b",")?;
-    let fields = report_fields(heap, report)?;
-    row.extend_from_slice(&fields)?;
-    row.extend_from_slice(b"\n")?;
-    Ok(row)
+    let mut text = Vec::from_slice(heap, &[row.letter, b','])?;
+    push_decimal(&mut text, usize::from(row.answer))?;
+    text.extend_from_slice(b",")?;
+    push_hex(&mut text, row.line)?;
+    text.extend_from_slice(b",")?;
+    let fields = report_fields(heap, row.report)?;
+    text.extend_from_slice(&fields)?;
+    text.extend_from_slice(b"\n")?;
+    Ok(text)
 }
 
-// One row behind what is there, or nothing where there is no memory for all of it: the call's letter, its answer, the
-// octets that it put on the line and the report that they raised.
-pub fn push_row(
-    out: &mut Vec<u8>,
-    name: u8,
-    answer: u8,
-    line: &[u8],
-    report: Option<Report>,
-) -> Result<(), AllocError>
-    ensures { out.new.items ≡ (if is_ok result then out.old.items ++ report_row name answer line.now report else out.old.items) }
+// One row behind what is there, or nothing where there is no memory for all of it.
+pub fn push_row(out: &mut Vec<u8>, row: &Row<'_>) -> Result<(), AllocError>
+    ensures { out.new.items ≡ (if is_ok result then out.old.items ++ row_text row.now else out.old.items) }
 {
-    let row = row_of(*out.allocator(), name, answer, line, report)?;
-    out.extend_from_slice(&row)
+    let text = text_of(*out.allocator(), row)?;
+    out.extend_from_slice(&text)
 }
 
 // The row of an unfit line.
 pub fn push_unfit(out: &mut Vec<u8>) -> Result<(), AllocError>
     ensures { out.new.items ≡ (if is_ok result then out.old.items ++ unfit_row else out.old.items) }
 {
-    push_row(out, UNFIT, UNFIT_NUMBER, &[], None)
+    push_row(out, &Row::unfit())
 }
 
 // The names of the columns.

@@ -1,2 +1,3 @@
+pub mod Stuffing
 pub mod Writing
 pub mod Outcomes

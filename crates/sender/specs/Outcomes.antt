@@ -4,6 +4,7 @@ use Rattle.std.specs.Prelude.{◌≡◌, ℕ, ◌+◌, cond, List, ◌++◌, len
 use Rattle.codes.specs.Rules.{after, Alike}
 use Rattle.frames.specs.declared.answers.Refusal.{Refusal}
 use Rattle.frames.specs.declared.answers.Refusal.TheVariants as refusal
+use Rattle.frames.specs.declared.answers.Refused.{Refused as TurnedDown}
 use Rattle.frames.specs.declared.settings.Settings.{Settings}
 use Rattle.frames.specs.Terms.{Terms, serves}
 use Rattle.frames.specs.Of.{terms}
@@ -11,12 +12,6 @@ use Rattle.frames.specs.Layout.{header, opening_octets, adding_octets, adapting_
 use Rattle.frames.specs.Calls.{stretch_refusal}
 use Rattle.sender.specs.declared.idle.Idle.{Idle}
 use Rattle.sender.specs.declared.open.Open.{Open}
-use Rattle.sender.specs.declared.answers.Made.{Made}
-use Rattle.sender.specs.declared.answers.Made.TheVariants as made
-use Rattle.sender.specs.declared.answers.Opened.{Opened}
-use Rattle.sender.specs.declared.answers.Opened.TheVariants as opened
-use Rattle.sender.specs.declared.answers.Ended.{Ended}
-use Rattle.sender.specs.declared.answers.Ended.TheVariants as ended
 
 -- A call that writes `os` is taken: no ground to refuse it; the octets stand at the stretch's front as the line code
 -- sends them, and the rest is as it was; the line code goes on from there.
@@ -32,6 +27,11 @@ pub record Refused {S : Type 0} (ground : Option Refusal) (r : Refusal) (s s' : 
   pub stretch : left ≡ before
   pub same : s' ≡ s
 
+-- octets put through a line code, or turned down where the stretch is too short for them
+abbrev pub Written : {L : Type 0} → (L → List ℕ → List ℕ) → List ℕ → L → L → List ℕ → List ℕ → Result ℕ Refusal → Type 0
+Written onward os line line' before left (Ok n) = Taken (stretch_refusal os (length before)) (onward line) (onward line') os before left n
+Written onward os line line' before left (Err r) = Refused (stretch_refusal os (length before)) r line line' before left
+
 -- an unserved SAPI or too much information comes before too short a stretch
 abbrev pub opening_refusal : Terms → ℕ → ℕ → Option Refusal
 opening_refusal σ sapi room = cond (serves σ.served sapi) (stretch_refusal (opening_octets sapi) room) (Some refusal.Unserved)
@@ -41,17 +41,17 @@ adding_refusal σ count information room =
     cond (nat_lt σ.longest (count + length information)) (Some refusal.Overfull) (stretch_refusal (adding_octets information) room)
 
 -- making a sender: refused where the check is of another width than the settings say
-abbrev pub Making : {L K : Type 0} → ℕ → Settings → L → Made L K → Type 0
-Making width settings line (made.Idle s) = ((terms settings).width ≡ width) × (s.settings ≡ settings) × (s.line ≡ line)
-Making width settings line (made.Refused line' r) = ((terms settings).width ≢ width) × (line' ≡ line) × (r ≡ refusal.Settings)
+abbrev pub Making : {L K : Type 0} → ℕ → Settings → L → Result (Idle L K) (TurnedDown L) → Type 0
+Making width settings line (Ok s) = ((terms settings).width ≡ width) × (s.settings ≡ settings) × (s.line ≡ line)
+Making width settings line (Err e) = ((terms settings).width ≢ width) × (e.given ≡ line) × (e.refusal ≡ refusal.Settings)
 
-abbrev pub Opening : {L K : Type 0} → (L → List ℕ → List ℕ) → (List ℕ → List ℕ) → (K → List ℕ → List ℕ) → ℕ → Idle L K → List ℕ → List ℕ → Opened L K → Type 0
-Opening onward owed owes sapi s before left (opened.Open s' n) =
+abbrev pub Opening : {L K : Type 0} → (L → List ℕ → List ℕ) → (List ℕ → List ℕ) → (K → List ℕ → List ℕ) → ℕ → Idle L K → List ℕ → List ℕ → Result (Open L K × ℕ) (TurnedDown (Idle L K)) → Type 0
+Opening onward owed owes sapi s before left (Ok (s', n)) =
     Taken (opening_refusal (terms s.settings) sapi (length before)) (onward s.line) (onward s'.line) (opening_octets sapi) before left n
     × (s'.settings ≡ s.settings) × (s'.count ≡ 0)
     × ((further : List ℕ) → owes s'.check further ≡ owed (header sapi ++ further))
-Opening onward owed owes sapi s before left (opened.Refused s' r) =
-    Refused (opening_refusal (terms s.settings) sapi (length before)) r s s' before left
+Opening onward owed owes sapi s before left (Err e) =
+    Refused (opening_refusal (terms s.settings) sapi (length before)) e.refusal s e.given before left
 
 abbrev pub Filling : {L K : Type 0} → (L → List ℕ → List ℕ) → ℕ → Idle L K → Idle L K → List ℕ → List ℕ → Result ℕ Refusal → Type 0
 Filling onward k s s' before left (Ok n) =
@@ -74,7 +74,7 @@ Adapting onward k s s' before left (Ok n) =
 Adapting onward k s s' before left (Err r) = Refused (stretch_refusal (adapting_octets k) (length before)) r s s' before left
 
 -- closing, spoiling and aborting, by the octets that they write
-abbrev pub Ending : {L K : Type 0} → (L → List ℕ → List ℕ) → List ℕ → Open L K → List ℕ → List ℕ → Ended L K → Type 0
-Ending onward os s before left (ended.Idle s' n) =
+abbrev pub Ending : {L K : Type 0} → (L → List ℕ → List ℕ) → List ℕ → Open L K → List ℕ → List ℕ → Result (Idle L K × ℕ) (TurnedDown (Open L K)) → Type 0
+Ending onward os s before left (Ok (s', n)) =
     Taken (stretch_refusal os (length before)) (onward s.line) (onward s'.line) os before left n × (s'.settings ≡ s.settings)
-Ending onward os s before left (ended.Refused s' r) = Refused (stretch_refusal os (length before)) r s s' before left
+Ending onward os s before left (Err e) = Refused (stretch_refusal os (length before)) e.refusal s e.given before left

@@ -1,11 +1,10 @@
 // The sending end of a link, for any line code and any frame check.
 #![tactic(auto)]
 
-mod answers;
 mod idle;
 mod open;
 mod putting;
+mod stuffed;
 
-pub use answers::{Ended, Made, Opened};
 pub use idle::Idle;
 pub use open::Open;

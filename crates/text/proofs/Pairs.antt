@@ -1,5 +1,6 @@
 -- `unhex`, two digits on and at its ends.
-use Rattle.std.proofs.Common.{◌≡◌, ℕ, ◌-◌, ◌<◌, ◌≤◌, Bool, cond, eqb, List, [], ◌∷◌, ◌++◌, length, get_or, take, drop, Some, None, Option, sym, refl, ap, append_assoc, arith}
+use Rattle.std.proofs.Common.{◌≡◌, ℕ, ◌-◌, ◌<◌, ◌≤◌, Bool, eqb, List, [], ◌∷◌, ◌++◌, length, get_or, take, drop, Some, None, Option, sym, refl, ap, append_assoc, arith}
+use Rattle.std.specs.Bool.{then_some}
 use Rattle.std.specs.Option.{option_map}
 use Rattle.std.proofs.lemmas.List.{take_rest, append-nil}
 use Rattle.text.specs.Hex.{digit_value, both, behind, unhex}
@@ -25,8 +26,8 @@ pub one_octet : (xs ys cs : List ℕ) (o : ℕ) → 2 ≤ length cs → Some o �
 one_octet xs ys cs o h e p = rw (take_rest cs 2, p, two_on cs h, ← e) (behind_push xs o (unhex (drop 2 cs)))
 
 -- at most one digit is left: with none the text is whole
-pub at_end : (xs cs : List ℕ) (whole : Bool) → length cs < 2 → whole ≡ eqb (length cs) 0 → cond whole (Some xs) None ≡ option_map (λ os. xs ++ os) (unhex cs)
+pub at_end : {V : Type 0} (items : V → List ℕ) (v : V) (cs : List ℕ) (whole : Bool) → length cs < 2 → whole ≡ eqb (length cs) 0 → option_map items (then_some whole v) ≡ option_map (λ os. items v ++ os) (unhex cs)
 unfolding unhex
-at_end xs [] whole h e = rw e (ap Some (sym (append-nil xs)))
-at_end xs (a ∷ []) whole h e = rw e refl
-at_end xs (a ∷ b ∷ cs) whole h e = absurd (omega arith)
+at_end items v [] whole h e = rw e (ap Some (sym (append-nil (items v))))
+at_end items v (a ∷ []) whole h e = rw e refl
+at_end items v (a ∷ b ∷ cs) whole h e = absurd (omega arith)

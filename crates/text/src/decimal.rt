@@ -4,6 +4,7 @@ ghost use Rattle.text.specs.Decimal.{decimal, undecimal, number_with_digit, read
 use std::alloc::{AllocError, Global};
 
 // The number's digits.
+#[tactic(auto, using(crate::proofs::Figures::written_decimal))]
 fn digits(heap: Global, number: usize) -> Result<String, AllocError>
     ensures { IfOk result (λ s. string_bytes s ≡ decimal number) }
 {
@@ -23,14 +24,7 @@ fn with_digit(number: u16, code: u8) -> Option<u16>
     ensures { result ≡ number_with_digit number code }
 {
     match code {
-        b'0'..=b'9' => {
-            let longer = u32::from(number) * 10 + u32::from(code - b'0');
-            if longer <= 65535 {
-                Some(longer as u16)
-            } else {
-                None
-            }
-        }
+        b'0'..=b'9' => number.checked_mul(10)?.checked_add(u16::from(code - b'0')),
         _ => None,
     }
 }

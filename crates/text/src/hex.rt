@@ -24,6 +24,7 @@ fn push_octet(out: &mut Vec<u8>, octet: u8) -> Result<(), AllocError>
 }
 
 // The digits of each octet in turn, as far as the memory goes.
+#[tactic(auto, unfolding(crate::specs::Hex::hex))]
 fn push_octets(out: &mut Vec<u8>, octets: &[u8]) -> Result<(), AllocError>
     ensures whole { OnOk result (out.new.items ≡ out.old.items ++ hex octets.now) }
     ensures kept { take (vec_len out.old) out.new.items ≡ out.old.items }
@@ -67,30 +68,18 @@ pub fn octet_value(high: u8, low: u8) -> Option<u8>
     Some(high * 16 + low)
 }
 
-// Gathers the octets that pairs of digits write, and says whether the whole text is such pairs.
-fn read_pairs(octets: &mut Vec<u8>, text: &[u8]) -> Result<bool, AllocError>
-    requires { octets.old.items ≡ [] }
-    ensures { IfOk result (λ whole. (if whole then Some octets.new.items else None) ≡ unhex text.now) }
-{
-    let mut rest = text;
-    while let [high, low, further @ ..] = rest {
-        let Some(octet) = octet_value(*high, *low) else {
-            return Ok(false);
-        };
-        octets.push(octet)?;
-        rest = further;
-    }
-    Ok(rest.is_empty())
-}
-
 // The octets that a text of hexadecimal digits writes, if it is one.
 pub fn parse_hex(heap: Global, text: &[u8]) -> Result<Option<Vec<u8>>, AllocError>
     ensures { IfOk result (λ o. option_map vec_items o ≡ unhex text.now) }
 {
     let mut octets = Vec::new(heap);
-    if read_pairs(&mut octets, text)? {
-        Ok(Some(octets))
-    } else {
-        Ok(None)
+    let mut rest = text;
+    while let [high, low, further @ ..] = rest {
+        let Some(octet) = octet_value(*high, *low) else {
+            return Ok(None);
+        };
+        octets.push(octet)?;
+        rest = further;
     }
+    Ok(rest.is_empty().then_some(octets))
 }

@@ -1,4 +1,3 @@
-pub mod Check
 pub mod Law
 pub mod Sum
 pub mod Tiles

@@ -1,5 +1,5 @@
 -- The parts of a view tile its information.
-use Rattle.std.proofs.Common.{◌≡◌, ℕ, ◌+◌, ◌-◌, ◌≤◌, Bool, true, false, cond, eqb, ltb, List, [], ◌∷◌, ◌++◌, length, take, drop, Err, sym, refl, ap, ◌∙◌, subst, arith}
+use Rattle.std.proofs.Common.{◌≡◌, ℕ, ◌+◌, ◌-◌, ◌≤◌, Bool, true, false, cond, eqb, ltb, List, [], ◌∷◌, ◌++◌, length, take, drop, Result, Err, sym, refl, ap, ◌∙◌, subst, arith}
 use Rattle.std.proofs.lemmas.List.{length-take-le, length-drop, take-append-drop, drop-drop, drop_all}
 use Rattle.std.proofs.lemmas.Bool.{cond_both, ltb-false, or_parts}
 use Rattle.views.specs.declared.parts.Refusal.{Refusal}
@@ -80,8 +80,11 @@ ipv6_tiled info =
     let b : p ≤ length info - 40 = ltb-false (length info - 40) p n.1.1.0 in
     tiled info (40 ∷ (40 + p) ∷ length info ∷ []) (omega arith, omega arith, (omega arith, omega arith, (omega arith, omega arith, refl))))
 
-pub viewed_tiled : (sapi : ℕ) (info : List ℕ) → Tiled info (viewed sapi info)
-viewed_tiled sapi info =
+all_tiled : (sapi : ℕ) (info : List ℕ) → Tiled info (viewed sapi info)
+all_tiled sapi info =
     cond_both (eqb sapi 0xfe01) _ _ (Tiled info) (λ _. mac_tiled info)
     (λ _. cond_both (eqb sapi 0x0021) _ _ (Tiled info) (λ _. ipv4_tiled info)
     (λ _. cond_both (eqb sapi 0x0057) _ _ (Tiled info) (λ _. ipv6_tiled info) (λ _. tt)))
+
+pub viewed_tiled : (sapi : ℕ) (info : List ℕ) (r : Result Viewed Refusal) → r ≡ viewed sapi info → Tiled info r
+viewed_tiled sapi info r e = subst (Tiled info) (sym e) (all_tiled sapi info)

@@ -1,9 +1,12 @@
 -- The ones-complement sum of RFC 791.
-use Rattle.std.specs.Prelude.{ℕ, ◌+◌, ◌*◌, ◌/◌, ◌%◌, List, [], ◌∷◌}
+use Rattle.std.specs.Prelude.{ℕ, ◌+◌, ◌*◌, ◌/◌, ◌%◌, List, [], ◌∷◌, slice_index}
 
 -- two octets as a 16-bit word, the higher octet first
 abbrev pub word : ℕ → ℕ → ℕ
 word high low = high * 256 + low
+
+abbrev pub word_value : List ℕ → ℕ
+word_value octets = word (slice_index octets 0) (slice_index octets 1)
 
 -- the sum of the words; a header is a whole number of them
 abbrev pub word_sum : List ℕ → ℕ

@@ -1,30 +1,29 @@
-ghost use Rattle.std.specs.Prelude.{◌≡◌, ◌≤◌, length};
+ghost use Rattle.std.specs.Prelude.{◌≡◌, ◌<◌, ◌≤◌, ◌^◌, length, sum_by};
 ghost use Rattle.views.specs.Views.{held, ipv4_of, ipv4_viewed, ipv6_of, ipv6_viewed};
-ghost use Rattle.views.specs.Sum.{word_sum, folded_sum};
+ghost use Rattle.views.specs.Sum.{word_value, word_sum, folded_sum};
 
 use crate::cut::cut;
 use crate::parts::{Ipv4Packet, Ipv6Packet, Refusal};
 
 // The sum of the 16-bit words, mathematically.
-fn sum_of_words(octets: &[u8]) -> u32
-    requires { length octets.now ≤ 60 }
-    ensures { result ≡ word_sum octets.now }
+fn sum_of_words(words: &[[u8; 2]]) -> u32
+    requires { sum_by word_value words.now < 2 ^ 32 }
+    ensures { result ≡ sum_by word_value words.now }
 {
-    let mut sum = 0u32;
-    let mut left = octets;
-    while let [high, low, rest @ ..] = left {
-        sum += u32::from(u16::from_be_bytes([*high, *low]));
-        left = rest;
-    }
-    sum
+    words
+        .iter()
+        .map(|word| u32::from(u16::from_be_bytes(*word)))
+        .sum()
 }
 
 // The ones-complement sum: what is carried out of sixteen bits is added in again, until nothing is.
+#[tactic(auto, using(crate::proofs::Sum::words_sum, crate::proofs::Sum::words_fit))]
 fn ones_complement_sum(octets: &[u8]) -> u32
     requires { length octets.now ≤ 60 }
     ensures { result ≡ folded_sum (word_sum octets.now) }
 {
-    let mut sum = sum_of_words(octets);
+    let (words, _) = octets.as_chunks::<2>();
+    let mut sum = sum_of_words(words);
     while sum > 0xffff {
         sum = sum % 0x10000 + sum / 0x10000;
     }
@@ -34,22 +33,19 @@ fn ones_complement_sum(octets: &[u8]) -> u32
 pub(crate) fn ipv4(information: &[u8]) -> Result<Ipv4Packet<'_>, Refusal>
     ensures { held ipv4_of result ≡ ipv4_viewed information.now }
 {
-    let [first, _, total_high, total_low, ..] = information else {
+    let Some((fixed, _)) = information.split_first_chunk::<20>() else {
         return Err(Refusal::IpHeader);
     };
     let length = information.len();
-    if length < 20 {
-        return Err(Refusal::IpHeader);
-    }
-    if *first / 16 != 4 {
+    if fixed[0] / 16 != 4 {
         return Err(Refusal::IpVersion);
     }
-    let header = usize::from(*first % 16) * 4;
-    if header < 20 || header > length {
+    let header = usize::from(fixed[0] % 16) * 4;
+    if !(20..=length).contains(&header) {
         return Err(Refusal::IpHeader);
     }
-    let total = usize::from(u16::from_be_bytes([*total_high, *total_low]));
-    if total < header || total > length {
+    let total = usize::from(u16::from_be_bytes([fixed[2], fixed[3]]));
+    if !(header..=length).contains(&total) {
         return Err(Refusal::IpLength);
     }
     if ones_complement_sum(&information[0..header]) != 0xffff {
@@ -66,23 +62,19 @@ pub(crate) fn ipv4(information: &[u8]) -> Result<Ipv4Packet<'_>, Refusal>
 pub(crate) fn ipv6(information: &[u8]) -> Result<Ipv6Packet<'_>, Refusal>
     ensures { held ipv6_of result ≡ ipv6_viewed information.now }
 {
-    let [first, _, _, _, payload_high, payload_low, ..] = information else {
+    let Some((header, after)) = information.split_first_chunk::<40>() else {
         return Err(Refusal::IpHeader);
     };
-    let length = information.len();
-    if length < 40 {
-        return Err(Refusal::IpHeader);
-    }
-    if *first / 16 != 6 {
+    if header[0] / 16 != 6 {
         return Err(Refusal::IpVersion);
     }
-    let payload = usize::from(u16::from_be_bytes([*payload_high, *payload_low]));
-    if payload > length - 40 {
+    let payload = usize::from(u16::from_be_bytes([header[4], header[5]]));
+    if payload > after.len() {
         return Err(Refusal::IpLength);
     }
     Ok(Ipv6Packet {
         header: cut(information, 0, 40),
         payload: cut(information, 40, 40 + payload),
-        rest: cut(information, 40 + payload, length),
+        rest: cut(information, 40 + payload, information.len()),
     })
 }

@@ -10,18 +10,15 @@ fn check_stands(information: &[u8]) -> bool
     requires { 4 ≤ length information.now }
     ensures { result ≡ checked information.now }
 {
-    let [covered @ .., c0, c1, c2, c3] = information else {
-        return false;
-    };
-    let check = [*c0, *c1, *c2, *c3];
-    check_octets_of::<Fcs32>(covered).as_slice() == check.as_slice()
+    let (covered, check) = information.split_at(information.len() - 4);
+    check_octets_of::<Fcs32>(covered).as_slice() == check
 }
 
 pub(crate) fn mac(information: &[u8]) -> Result<MacFrame<'_>, Refusal>
     ensures { held mac_of result ≡ mac_viewed information.now }
 {
     let length = information.len();
-    if length < 64 || length > 1518 {
+    if !(64..=1518).contains(&length) {
         return Err(Refusal::MacLength);
     }
     if !check_stands(information) {

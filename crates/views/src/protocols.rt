@@ -12,21 +12,16 @@ const IPV4_SAPI: u16 = 0x0021;
 const IPV6_SAPI: u16 = 0x0057;
 
 // The information that a frame with this SAPI delivered, by its fields.
+#[tactic(auto, using(crate::proofs::Law::sum_law))]
 pub fn view_of(sapi: u16, information: &[u8]) -> Result<View<'_>, Refusal>
     ensures viewed { held view_of result ≡ viewed sapi information.now }
     ensures tiled { Tiled information.now (held view_of result) }
     ensures sums { SumLaw information.now }
 {
-    view_by_sapi(sapi, information)
-}
-
-fn view_by_sapi(sapi: u16, information: &[u8]) -> Result<View<'_>, Refusal>
-    ensures { held view_of result ≡ viewed sapi information.now }
-{
     match sapi {
-        MAC_SAPI => Ok(View::Mac(mac(information)?)),
-        IPV4_SAPI => Ok(View::Ipv4(ipv4(information)?)),
-        IPV6_SAPI => Ok(View::Ipv6(ipv6(information)?)),
+        MAC_SAPI => mac(information).map(View::Mac),
+        IPV4_SAPI => ipv4(information).map(View::Ipv4),
+        IPV6_SAPI => ipv6(information).map(View::Ipv6),
         _ => Err(Refusal::NoView),
     }
 }
@@ -35,14 +30,6 @@ impl Refusal {
     pub fn number(self) -> u8
         ensures { result ≡ number_of self }
     {
-        match self {
-            Refusal::MacLength => 21,
-            Refusal::MacCheck => 22,
-            Refusal::IpVersion => 23,
-            Refusal::IpHeader => 24,
-            Refusal::IpLength => 25,
-            Refusal::IpSum => 26,
-            Refusal::NoView => 27,
-        }
+        self as u8
     }
 }

@@ -3,8 +3,9 @@ use Rattle.std.proofs.Common.{◌≡◌, ℕ, suc, ◌+◌, ◌-◌, ◌*◌, �
 use lib.Arith.{digits_lt, digits_mod}
 use Rattle.std.proofs.lemmas.Bool.{cases_lt, eq-eqb, ne_eqb}
 use Rattle.watch.specs.declared.watch.Indication.{Indication}
+use Rattle.watch.specs.declared.watch.LinkWatch.{LinkWatch}
 use Rattle.watch.specs.Runs.{tick, heard, test_begins, test_ends, History, ticks_since, testing, indicated, after, untested, ByLaw, MutesPass}
-use Rattle.watch.specs.Watch.{Standing, ticked, says, runs_out, last_try}
+use Rattle.watch.specs.Watch.{Standing, standing, ticked, says, runs_out, last_try}
 
 -- e ticks are q whole rounds of N tries, u tries of the next, and l ticks of the next try
 pub record Count (t n e left tries_left : ℕ) : Type 0 where
@@ -122,10 +123,10 @@ module _ (t n : ℕ) (t-in : 1 ≤ t) (n-in : 1 ≤ n) where
       let same : indicated t n h ≡ indicated t n (untested h) = simp (e, untested_since h, untested_quiet h) in
       runs h ∙ same ∙ sym (runs (untested h))
 
--- the same of what a tick said at a standing that some history led to
-module _ (s : Standing) (r : Indication) (t-in : 1 ≤ s.timer) (n-in : 1 ≤ s.tries) (said : r ≡ says s) where
-  pub by_law : ByLaw s r
-  by_law h e = said ∙ ap says e ∙ runs s.timer s.tries t-in n-in h
+-- the same of what a tick of a watch said, whatever history led there
+module _ (w : LinkWatch) (r : Indication) (said : r ≡ says (standing w)) where
+  pub by_law : ByLaw (standing w) r
+  by_law h e = said ∙ ap says e ∙ runs w.timer w.tries w.timer_in.0 w.tries_in.0 h
 
-  pub mutes_pass : MutesPass s r
-  mutes_pass h e q = said ∙ ap says e ∙ mutes s.timer s.tries t-in n-in h (sym (ap (λ x. x.muted) e) ∙ q)
+  pub mutes_pass : MutesPass (standing w) r
+  mutes_pass h e q = said ∙ ap says e ∙ mutes w.timer w.tries w.timer_in.0 w.tries_in.0 h (sym (ap (λ x. x.muted) e) ∙ q)

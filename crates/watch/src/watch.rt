@@ -4,7 +4,7 @@ mod calls;
 pub mod line_test;
 
 // A link watch: T is `timer`, in tenths of a second, and N is `tries`. The fields hold where the count stands.
-#[derive(Drop)]
+#[derive(Drop, Debug, PartialEq, Eq)]
 pub struct LinkWatch {
     timer: u32,
     tries: u32,
@@ -25,8 +25,8 @@ pub enum Indication {
     LinkError,
 }
 
-// T or N lies outside its range. The number of this refusal is 5.
+// T or N lies outside its range. The discriminant is the number of the refusal.
 #[derive(Clone, Copy, PartialEq, Eq, Debug)]
 pub enum Refusal {
-    Timer,
+    Timer = 5,
 }

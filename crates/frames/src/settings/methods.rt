@@ -1,11 +1,13 @@
-ghost use Rattle.std.specs.Prelude.{◌≡◌};
+ghost use Rattle.std.specs.Prelude.{◌≡◌, ◌↔◌, IsOk, IfErr};
 ghost use Rattle.frames.specs.Of.{terms, Made};
-ghost use Rattle.frames.specs.Terms.{serves};
+ghost use Rattle.frames.specs.Terms.{serves, limit};
 
 use super::Settings;
 use crate::answers::Refusal;
+use crate::layout::HEADER;
+use checks::Check;
 
-// the service access points
+// the service access points: no enum, since a host may ask for any of the 65,536 numbers of that field
 pub const IPV4: u16 = 0x0021;
 
 pub const IPV6: u16 = 0x0057;
@@ -13,7 +15,8 @@ pub const IPV6: u16 = 0x0057;
 pub const MAC: u16 = 0xfe01;
 
 impl Settings {
-    // `served` is the sum of 1 for IPv4, 2 for IPv6 and 4 for MAC.
+    // `served` is the sum of 1 for IPv4, 2 for IPv6 and 4 for MAC. Numbers and no enums: it is here that a host's numbers,
+    // whatever they are, become settings or are refused.
     pub fn new(served: u32, longest: u32, width: u32) -> Result<Settings, Refusal>
         ensures { Made (record { served = served; longest = longest; width = width }) result }
     {
@@ -61,5 +64,24 @@ impl Settings {
         ensures { result ≡ (terms self.now).width }
     {
         self.width
+    }
+
+    // The most octets that lie between the flags of a good frame.
+    pub fn limit(&self) -> usize
+        ensures { result ≡ limit (terms self.now) }
+    {
+        HEADER + self.longest + self.width
+    }
+
+    // Whether an end over this kind of check can be made: it has the width that the settings say, or they are refused.
+    pub fn allow<K: Check>(&self) -> Result<(), Refusal>
+        ensures allowed { IsOk result ↔ ((terms self.now).width ≡ K.Check.width) }
+        ensures refused { IfErr result (λ r. r ≡ Refusal.Settings) }
+    {
+        if self.width == K::octet_count() {
+            Ok(())
+        } else {
+            Err(Refusal::Settings)
+        }
     }
 }

@@ -1,146 +1,102 @@
 ghost use Rattle.std.specs.Prelude.{◌≡◌};
-ghost use Rattle.frames.specs.Calls.{opening, adding, adapting, filling, closing, aborting, spoiling};
-ghost use Rattle.link.specs.Answering.{answered_as, ended_as};
-ghost use Rattle.link.specs.Driving.{call_of_request, CallsOn};
+ghost use Rattle.octets.specs.Octets.{Octets};
+ghost use Rattle.frames.specs.Calls.{Typed};
+ghost use Rattle.frames.specs.Of.{lent_call};
+ghost use Rattle.link.specs.Answering.{opened_as, ended_as, stayed_as};
+ghost use Rattle.link.specs.Driving.{CallsOn};
 
 use super::{Called, Sender};
-use crate::calls::{Answer, Request};
+use crate::answer::TurnedDown;
 use checks::Check;
 use codes::LineCode;
-use frames::Refusal;
-use sender::{Ended, Idle, Open, Opened};
+use frames::{Refusal, Refused, Request};
+use sender::{Idle, Open};
 
 impl<L: LineCode, K: Check + Drop> Sender<L, K> {
     // Makes the call that a request stands for.
-    pub fn call(self, request: Request<'_>, stretch: &mut [u8]) -> Called<L, K>
-        ensures { CallsOn L.LineCode.onward K.Check.owes K.Check.owed (call_of_request request.entry) self stretch.old result.sender stretch.new result.answer }
+    pub fn call(self, request: Request<&[u8]>, stretch: &mut [u8]) -> Called<L, K>
+        ensures calls { CallsOn L.LineCode.onward K.Check.owes K.Check.owed (lent_call request.entry) self stretch.old result.sender stretch.new result.answer }
+        ensures typed { Typed (lent_call request.entry) }
     {
-        match self {
-            Sender::Idle(idle) => match request {
-                Request::Open(sapi) => call_open(idle, sapi, stretch),
-                Request::Fill(k) => call_fill(idle, k, stretch),
-                _ => not_allowed(Sender::Idle(idle)),
-            },
-            Sender::Open(open) => match request {
-                Request::Add(information) => call_add(open, information, stretch),
-                Request::Adapt(k) => call_adapt(open, k, stretch),
-                Request::Close => call_close(open, stretch),
-                Request::Abort => call_abort(open, stretch),
-                Request::Spoil => call_spoil(open, stretch),
-                _ => not_allowed(Sender::Open(open)),
+        well_typed(request);
+        match (self, request) {
+            (Sender::Idle(idle), Request::Open(sapi)) => opened(idle.open(sapi, stretch)),
+            (Sender::Idle(mut idle), Request::Fill(flags)) => {
+                let outcome = idle.fill(flags, stretch);
+                stayed(Sender::Idle(idle), outcome)
+            }
+            (Sender::Open(mut open), Request::Add(information)) => {
+                let outcome = open.add(information, stretch);
+                stayed(Sender::Open(open), outcome)
+            }
+            (Sender::Open(mut open), Request::Adapt(pairs)) => {
+                let outcome = open.adapt(pairs, stretch);
+                stayed(Sender::Open(open), outcome)
+            }
+            (Sender::Open(open), Request::Close) => ended(open.close(stretch)),
+            (Sender::Open(open), Request::Abort) => ended(open.abort(stretch)),
+            (Sender::Open(open), Request::Spoil) => ended(open.spoil(stretch)),
+            (sender, _) => Called {
+                sender,
+                answer: Err(TurnedDown::NotAllowed),
             },
         }
     }
 }
 
-fn not_allowed<L, K>(sender: Sender<L, K>) -> Called<L, K>
-    ensures { (result.sender ≡ sender) × (result.answer ≡ Answer.NotAllowed) }
+// The sender stays in the state that it is in.
+fn stayed<L, K>(sender: Sender<L, K>, outcome: Result<usize, Refusal>) -> Called<L, K>
+    ensures { result ≡ stayed_as sender outcome }
 {
     Called {
         sender,
-        answer: Answer::NotAllowed,
+        answer: outcome.map_err(TurnedDown::from),
     }
 }
 
-fn call_open<L: LineCode, K: Check + Drop>(
-    idle: Idle<L, K>,
-    sapi: u16,
-    stretch: &mut [u8],
-) -> Called<L, K>
-    ensures { CallsOn L.LineCode.onward K.Check.owes K.Check.owed (opening sapi) (Sender.Idle idle) stretch.old result.sender stretch.new result.answer }
-{
-    match idle.open(sapi, stretch) {
-        Opened::Open(open, written) => Called {
-            sender: Sender::Open(open),
-            answer: Answer::Written(written),
-        },
-        Opened::Refused(idle, refusal) => Called {
-            sender: Sender::Idle(idle),
-            answer: Answer::Refused(refusal),
-        },
-    }
-}
-
-fn call_fill<L: LineCode, K: Check + Drop>(
-    mut idle: Idle<L, K>,
-    k: u16,
-    stretch: &mut [u8],
-) -> Called<L, K>
-    ensures { CallsOn L.LineCode.onward K.Check.owes K.Check.owed (filling k) (Sender.Idle idle) stretch.old result.sender stretch.new result.answer }
-{
-    let outcome = idle.fill(k, stretch);
-    Called {
-        sender: Sender::Idle(idle),
-        answer: answered(outcome),
-    }
-}
-
-fn call_add<L: LineCode, K: Check + Drop>(
-    mut open: Open<L, K>,
-    information: &[u8],
-    stretch: &mut [u8],
-) -> Called<L, K>
-    ensures { CallsOn L.LineCode.onward K.Check.owes K.Check.owed (adding information.now) (Sender.Open «open») stretch.old result.sender stretch.new result.answer }
-{
-    let outcome = open.add(information, stretch);
-    Called {
-        sender: Sender::Open(open),
-        answer: answered(outcome),
-    }
-}
-
-fn call_adapt<L: LineCode, K: Check + Drop>(
-    mut open: Open<L, K>,
-    k: u16,
-    stretch: &mut [u8],
-) -> Called<L, K>
-    ensures { CallsOn L.LineCode.onward K.Check.owes K.Check.owed (adapting k) (Sender.Open «open») stretch.old result.sender stretch.new result.answer }
-{
-    let outcome = open.adapt(k, stretch);
-    Called {
-        sender: Sender::Open(open),
-        answer: answered(outcome),
-    }
-}
-
-fn call_close<L: LineCode, K: Check + Drop>(open: Open<L, K>, stretch: &mut [u8]) -> Called<L, K>
-    ensures { CallsOn L.LineCode.onward K.Check.owes K.Check.owed closing (Sender.Open «open») stretch.old result.sender stretch.new result.answer }
-{
-    ended(open.close(stretch))
-}
-
-fn call_abort<L: LineCode, K: Check + Drop>(open: Open<L, K>, stretch: &mut [u8]) -> Called<L, K>
-    ensures { CallsOn L.LineCode.onward K.Check.owes K.Check.owed aborting (Sender.Open «open») stretch.old result.sender stretch.new result.answer }
-{
-    ended(open.abort(stretch))
-}
-
-fn call_spoil<L: LineCode, K: Check + Drop>(open: Open<L, K>, stretch: &mut [u8]) -> Called<L, K>
-    ensures { CallsOn L.LineCode.onward K.Check.owes K.Check.owed spoiling (Sender.Open «open») stretch.old result.sender stretch.new result.answer }
-{
-    ended(open.spoil(stretch))
-}
-
-fn answered(outcome: Result<usize, Refusal>) -> Answer
-    ensures { result ≡ answered_as outcome }
+// A frame was to be opened. It and the next function cross the two states in opposite ways: as one they would be handed the
+// two cases to wrap in, and each call would read longer than its `match`.
+fn opened<L, K>(outcome: Result<(Open<L, K>, usize), Refused<Idle<L, K>>>) -> Called<L, K>
+    ensures { result ≡ opened_as outcome }
 {
     match outcome {
-        Ok(written) => Answer::Written(written),
-        Err(refusal) => Answer::Refused(refusal),
+        Ok((open, written)) => Called {
+            sender: Sender::Open(open),
+            answer: Ok(written),
+        },
+        Err(Refused { given, refusal }) => Called {
+            sender: Sender::Idle(given),
+            answer: Err(refusal.into()),
+        },
     }
 }
 
-fn ended<L, K>(outcome: Ended<L, K>) -> Called<L, K>
+fn ended<L, K>(outcome: Result<(Idle<L, K>, usize), Refused<Open<L, K>>>) -> Called<L, K>
     ensures { result ≡ ended_as outcome }
 {
     match outcome {
-        Ended::Idle(idle, written) => Called {
+        Ok((idle, written)) => Called {
             sender: Sender::Idle(idle),
-            answer: Answer::Written(written),
+            answer: Ok(written),
         },
-        Ended::Refused(open, refusal) => Called {
-            sender: Sender::Open(open),
-            answer: Answer::Refused(refusal),
+        Err(Refused { given, refusal }) => Called {
+            sender: Sender::Open(given),
+            answer: Err(refusal.into()),
         },
     }
+}
+
+// A request's arguments are of their types: a fact for the proofs, no code.
+fn well_typed(request: Request<&[u8]>)
+    ensures { Typed (lent_call request.entry) }
+{
+    if let Request::Add(information) = request {
+        octets(information);
+    }
+}
+
+fn octets(information: &[u8])
+    ensures { Octets information.now }
+{
+    let _ = information.is_empty();
 }

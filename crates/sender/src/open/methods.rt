@@ -1,17 +1,16 @@
-ghost use Rattle.std.specs.Prelude.{◌≡◌, ◌≤◌, [], length};
+ghost use Rattle.std.specs.Prelude.{◌≡◌, []};
+ghost use Rattle.checks.specs.Written.{check_octets};
 ghost use Rattle.frames.specs.Layout.{closing_octets, spoiling_octets, aborting_octets};
 ghost use Rattle.sender.specs.Outcomes.{Adding, Adapting, Ending};
 
 use super::Open;
-use crate::answers::Ended;
 use crate::idle::Idle;
-use crate::putting::{
-    FLAG, adaptations_length, closing_length, complement, put_adaptations, put_closing, put_pair,
-    put_run, stuffed_length,
-};
-use checks::{Check, take_in_all};
+use crate::putting::{put, put_times};
+use crate::stuffed::{Stuffed, stuffed_length};
+use checks::{Check, CheckOctets, take_in_all};
 use codes::LineCode;
-use frames::Refusal;
+use frames::{ADAPTATION, ESCAPE, FLAG, Refusal, Refused};
+use std::iter::once;
 use std::marker::PhantomData;
 
 impl<L: LineCode, K: Check + Drop> Open<L, K> {
@@ -22,10 +21,12 @@ impl<L: LineCode, K: Check + Drop> Open<L, K> {
         if information.len() > self.settings.longest() - self.count {
             return Err(Refusal::Overfull);
         }
-        if stuffed_length(information) > stretch.len() {
+        let written = stuffed_length(information);
+        if written > stretch.len() {
             return Err(Refusal::Stretch);
         }
-        let written = put_run(&mut self.line, information, stretch, 0);
+        put(&mut self.line, Stuffed::new(information), stretch);
+        // a pass of its own: fed in the pass above, the check would have to stand inside the iterator of stuffed octets
         take_in_all(&mut self.check, information);
         self.count += information.len();
         Ok(written)
@@ -35,53 +36,63 @@ impl<L: LineCode, K: Check + Drop> Open<L, K> {
     pub fn adapt(&mut self, k: u16, stretch: &mut [u8]) -> Result<usize, Refusal>
         ensures { Adapting L.LineCode.onward k self.old self.new stretch.old stretch.new result }
     {
-        if adaptations_length(k) > stretch.len() {
-            return Err(Refusal::Stretch);
-        }
-        Ok(put_adaptations(&mut self.line, k, stretch))
+        put_times(&mut self.line, &[ESCAPE, ADAPTATION], k, stretch)
     }
 
     // Ends the frame with the check octets that it owes.
-    pub fn close(self, stretch: &mut [u8]) -> Ended<L, K>
+    pub fn close(self, stretch: &mut [u8]) -> Result<(Idle<L, K>, usize), Refused<Open<L, K>>>
         ensures { Ending L.LineCode.onward (closing_octets (K.Check.owes self.check [])) self stretch.old stretch.new result }
     {
         let owed = self.check.octets();
-        self.end(owed.as_slice(), stretch)
+        self.end(owed, stretch)
     }
 
     // Ends the frame with check octets that the far end must find wrong.
-    pub fn spoil(self, stretch: &mut [u8]) -> Ended<L, K>
+    pub fn spoil(self, stretch: &mut [u8]) -> Result<(Idle<L, K>, usize), Refused<Open<L, K>>>
         ensures { Ending L.LineCode.onward (spoiling_octets (K.Check.owes self.check [])) self stretch.old stretch.new result }
     {
         let owed = self.check.octets();
-        let owed = owed.as_slice();
-        let wrong = complement(owed);
-        self.end(&wrong[0..owed.len()], stretch)
+        self.end(owed.complement(), stretch)
     }
 
     // Breaks the frame off.
-    pub fn abort(self, stretch: &mut [u8]) -> Ended<L, K>
+    pub fn abort(self, stretch: &mut [u8]) -> Result<(Idle<L, K>, usize), Refused<Open<L, K>>>
         ensures { Ending L.LineCode.onward aborting_octets self stretch.old stretch.new result }
     {
         if stretch.len() < 2 {
-            return Ended::Refused(self, Refusal::Stretch);
+            return Err(Refused {
+                given: self,
+                refusal: Refusal::Stretch,
+            });
         }
         let mut idle = self.ended();
-        let written = put_pair(&mut idle.line, FLAG, stretch, 0);
-        Ended::Idle(idle, written)
+        put(&mut idle.line, once(ESCAPE).chain(once(FLAG)), stretch);
+        Ok((idle, 2))
     }
 
     // Ends the frame with these check octets and a flag.
-    fn end(self, check_octets: &[u8], stretch: &mut [u8]) -> Ended<L, K>
-        requires { length check_octets.now ≤ 4 }
-        ensures { Ending L.LineCode.onward (closing_octets check_octets.now) self stretch.old stretch.new result }
+    fn end(
+        self,
+        owed: CheckOctets,
+        stretch: &mut [u8],
+    ) -> Result<(Idle<L, K>, usize), Refused<Open<L, K>>>
+        ensures { Ending L.LineCode.onward (closing_octets (check_octets owed)) self stretch.old stretch.new result }
     {
-        if closing_length(check_octets) > stretch.len() {
-            return Ended::Refused(self, Refusal::Stretch);
+        let owed = owed.as_slice();
+        let written = stuffed_length(owed) + 1;
+        if written > stretch.len() {
+            return Err(Refused {
+                given: self,
+                refusal: Refusal::Stretch,
+            });
         }
         let mut idle = self.ended();
-        let written = put_closing(&mut idle.line, check_octets, stretch);
-        Ended::Idle(idle, written)
+        put(
+            &mut idle.line,
+            Stuffed::new(owed).chain(once(FLAG)),
+            stretch,
+        );
+        Ok((idle, written))
     }
 
     // the sender without its frame

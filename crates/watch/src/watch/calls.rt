@@ -9,7 +9,7 @@ impl LinkWatch {
     pub fn new(timer: u32, tries: u32) -> Result<LinkWatch, Refusal>
         ensures { outcome result ≡ made timer tries }
     {
-        if timer < 1 || timer > 600 || tries < 1 || tries > 255 {
+        if !(1..=600).contains(&timer) || !(1..=255).contains(&tries) {
             return Err(Refusal::Timer);
         }
         Ok(LinkWatch {
@@ -28,20 +28,12 @@ impl LinkWatch {
         (self.left, self.tries_left) = (self.timer, self.tries);
     }
 
-    // A tenth of a second has passed.
+    // A tenth of a second has passed. The count goes on while muted.
     pub fn tick(&mut self) -> Indication
         ensures stands { standing self.new ≡ ticked (standing self.old) }
         ensures indicates { result ≡ says (standing self.old) }
         ensures runs { ByLaw (standing self.old) result }
         ensures mutes { MutesPass (standing self.old) result }
-    {
-        self.count()
-    }
-
-    // The count itself, which goes on while muted.
-    fn count(&mut self) -> Indication
-        ensures stands { standing self.new ≡ ticked (standing self.old) }
-        ensures indicates { result ≡ says (standing self.old) }
     {
         self.left -= 1;
         if self.left > 0 {
@@ -65,8 +57,6 @@ impl Refusal {
     pub fn number(self) -> u8
         ensures { result ≡ number_of self }
     {
-        match self {
-            Refusal::Timer => 5,
-        }
+        self as u8
     }
 }

@@ -5,7 +5,8 @@ ghost use Rattle.watch.specs.Watch.{standing, ticked, says, heard_again, with_mu
 use super::{Indication, LinkWatch};
 
 // A line test in progress. As long as it lasts, its watch counts and indicates nothing; its end, however the test is
-// left, lets the watch indicate again.
+// left, lets the watch indicate again. The clauses `same` say that a call keeps the borrow that the test holds: a fact of
+// two states, which no invariant of one can carry.
 #[must_use]
 pub struct LineTest<'a> {
     watch: &'a mut LinkWatch,
@@ -50,31 +51,15 @@ impl Drop for LineTest<'_> {
 #[derive(Clone, Copy, PartialEq, Eq, Debug)]
 pub struct NoAnswer;
 
-fn expect_answer(answered: bool) -> Result<(), NoAnswer>
-    ensures { is_ok result ≡ answered }
-{
-    if answered { Ok(()) } else { Err(NoAnswer) }
-}
-
-// Ticks until an answer is missing.
-fn await_answers(test: &mut LineTest<'_>, answers: &[bool]) -> Result<(), NoAnswer>
-    ensures answered { is_ok result ≡ all_answered answers.now }
-    ensures stands { standing test.new.watch.now ≡ ticks_tested answers.now (standing test.old.watch.now) }
-    ensures same { test.new.watch.ghost_name ≡ test.old.watch.ghost_name }
-{
-    for answered in answers {
-        let _ = test.tick();
-        expect_answer(*answered)?;
-    }
-    Ok(())
-}
-
 // A line test that wants an answer at each tick, and is left early, by `?`, at the first that is missing.
 pub fn loop_back(watch: &mut LinkWatch, answers: &[bool]) -> Result<(), NoAnswer>
     ensures answered { is_ok result ≡ all_answered answers.now }
     ensures stands { standing watch.new ≡ tested answers.now (standing watch.old) }
 {
     let mut test = LineTest::begin(watch);
-    await_answers(&mut test, answers)?;
+    for answered in answers {
+        let _ = test.tick();
+        answered.then_some(()).ok_or(NoAnswer)?;
+    }
     Ok(())
 }

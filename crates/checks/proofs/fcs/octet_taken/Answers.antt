@@ -1,4 +1,4 @@
-use Rattle.std.proofs.Common.{◌≡◌, suc, ◌+◌, ◌-◌, ◌^◌, ◌<◌, [], ◌∷◌, sym, ap, ◌∙◌, subst, arith, lit≤}
+use Rattle.std.proofs.Common.{◌≡◌, suc, ◌+◌, ◌-◌, ◌^◌, ◌<◌, [], ◌∷◌, sym, ap, ◌∙◌, subst, arith}
 use lib.Bits.{bit_xor}
 use Rattle.checks.specs.Shifts.{shifts, octet_at_once, octets_below}
 use Rattle.checks.specs.Fcs.{bits_taken}
@@ -25,8 +25,8 @@ pub returns : goal.returns
 returns c =
     record {
       taken = taken c;
-      narrow = λ k r.
+      narrow = λ k wide below r.
           let h : c.args.octet < 256 = omega arith in
-          subst (λ n. n < 2 ^ 16) (sym (taken c))
-          (octets_below c.args.constant 16 k (lit≤ tt) c.args.register (c.args.octet ∷ []) (h, tt) r);
+          subst (λ n. n < 2 ^ k) (sym (taken c))
+          (octets_below c.args.constant k below wide c.args.register (c.args.octet ∷ []) (h, tt) r);
     }

@@ -8,10 +8,9 @@ use Rattle.exchange.proofs.whole.run_over.Goals as goal
 pub returns : goal.returns
 returns g c =
     let κs = map lent_of c.args.calls.now in
-    let line = vec_items c.send_all.new.line in
-    let sent = subst₂ (λ text past. SendsAll g.L.LineCode.onward g.K.Check.owes g.K.Check.owed κs (sender.Idle c.args.idle) text past line (vec_items c.send_all.new.answers))
-    c.new-line.ensures.items c.new-answers.ensures.items c.in_ok-send_all.ensures in
+    let sent = subst₂ (λ text past. SendsAll g.L.LineCode.onward g.K.Check.owes g.K.Check.owed κs (sender.Idle c.args.idle) text past (vec_items c.in_ok-line.field-0.line) (vec_items c.in_ok-line.field-0.answers))
+    c.new.ensures.items c.new-2.ensures.items c.in_ok-line.ensures in
     runs g.L.LineCode.onward g.L.LineCode.back g.D.LineCode.onward g.D.LineCode.back g.K.Check.owes g.K.Check.owed g.K.Check.passes g.K.Check.good g.K.Check.width
     g.met.L.LineCode.sends g.met.L.LineCode.undoes g.met.K.Check.widths g.met.K.Check.long g.met.K.Check.tells c.args.idle c.args.receiver κs
-    (record { answers = c.send_all.new.answers; line = c.send_all.new.line; reports = c.in_ok-reports.reports }) sent
+    (record { answers = c.in_ok-line.field-0.answers; line = c.in_ok-line.field-0.line; reports = c.in_ok-reports.reports }) sent
     (c.in_ok-reports.ensures.reports ∙ ap (reports_of g.D.LineCode.back g.K.Check.passes g.K.Check.good c.args.receiver) c.as_slice.ensures.value)

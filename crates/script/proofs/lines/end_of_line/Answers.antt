@@ -1,15 +1,10 @@
-use Rattle.std.proofs.Common.{◌<◌, length, add-one, arith}
-use native.Mathlib.Nat.{sub-zero}
-use Rattle.std.proofs.lemmas.List.{take_rest}
-use Rattle.script.proofs.Ends.{first_ended, around_end, none_ended}
+use Rattle.std.proofs.Common.{rules}
+use Rattle.std.proofs.lemmas.Iterator.{IsFirst-from_position, YieldsList-from_slice}
+use borrow.Author.Tests.{tests}
+use Rattle.script.proofs.Ends.{IsEnd, IsNoEnd, ends_at_first}
 use Rattle.script.proofs.lines.end_of_line.Goals as goal
 
-pub returns-then-octet-eq-LINE_END : goal.returns-then-octet-eq-LINE_END
-returns-then-octet-eq-LINE_END c =
-    let os = c.args.text.now in
-    let i = c.loop-i.i in
-    let lt : i < length os = omega arith in
-    (lt, simp (take_rest, sub-zero, add-one) (around_end os i lt c.if-octet-eq-LINE_END.true), simp (take_rest, sub-zero, add-one) (first_ended os i lt c.loop-i.invariant c.if-octet-eq-LINE_END.true))
-
 pub returns : goal.returns
-returns c = λ some. none_ended c.args.text.now some (λ k h. c.loop-i.invariant k (omega arith))
+returns c =
+    ends_at_first c.args.text.now c.position.result
+    (IsFirst-from_position _ _ _ IsEnd IsNoEnd c.position.ensures.ran (YieldsList-from_slice c.args.text.now cc) (λ x q k. search (rules, tests)) (λ x q k. search (rules, tests)))

@@ -1,5 +1,5 @@
 use Rattle.script.specs.Script.{head_line}
-use Rattle.script.proofs.Stripped.{stripped}
+use Rattle.text.proofs.Stripped.{stripped}
 use Rattle.script.proofs.parse.strip_head.Goals as goal
 
 pub returns : goal.returns

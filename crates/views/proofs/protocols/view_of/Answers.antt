@@ -1,15 +1,12 @@
-use Rattle.std.proofs.Common.{◌<◌, sym, subst, arith}
-use Rattle.std.proofs.ByRecursion.{All-from_get_or}
-use Rattle.views.proofs.Law.{sum_law}
+use Rattle.std.proofs.Common.{rules}
 use Rattle.views.proofs.Tiles.{viewed_tiled}
 use Rattle.views.proofs.protocols.view_of.Goals as goal
-use Rattle.views.specs.Views.{Tiled}
 
-pub returns : goal.returns
-returns c =
-    let info = c.args.information.now in
-    record {
-      viewed = c.view_by_sapi.ensures;
-      tiled = subst (Tiled info) (sym c.view_by_sapi.ensures) (viewed_tiled c.args.sapi info);
-      sums = sum_law info (All-from_get_or (λ x. x < 256) info 0 (λ i _. omega (arith, c.type_inv.information i)));
-    }
+pub returns-in-65025-clause-tiled : goal.returns-in-65025-clause-tiled
+returns-in-65025-clause-tiled c = viewed_tiled c.args.sapi c.args.information.now _ (search rules)
+
+pub returns-in-33-clause-tiled : goal.returns-in-33-clause-tiled
+returns-in-33-clause-tiled c = viewed_tiled c.args.sapi c.args.information.now _ (search rules)
+
+pub returns-in-87-clause-tiled : goal.returns-in-87-clause-tiled
+returns-in-87-clause-tiled c = viewed_tiled c.args.sapi c.args.information.now _ (search rules)

@@ -1,4 +1,5 @@
-use Rattle.receiver.proofs.Feeding.{typed, run_none, run_more, run_stops, run_all}
+use Rattle.octets.proofs.Typed.{typed}
+use Rattle.receiver.proofs.Feeding.{run_none, run_more, run_stops, run_all}
 use Rattle.receiver.proofs.receiver.Receiver.first_report.Goals as goal
 
 pub loop-i-init : goal.loop-i-init

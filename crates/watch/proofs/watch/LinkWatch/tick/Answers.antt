@@ -1,11 +1,24 @@
-use Rattle.std.proofs.Common.{◌≡◌, arith}
+use Rattle.std.proofs.Common.{rules}
 use Rattle.watch.proofs.Runs.{by_law, mutes_pass}
 use Rattle.watch.proofs.watch.LinkWatch.tick.Goals as goal
-use Rattle.watch.specs.Watch.{standing, says}
 
-pub returns : goal.returns
-returns c =
-    let s = standing c.args.self.now in
-    let r = c.count.result in
-    let said : r ≡ says s = c.count.ensures.indicates in
-    record { stands = c.count.ensures.stands; indicates = said; runs = by_law s r (omega arith) (omega arith) said; mutes = mutes_pass s r (omega arith) (omega arith) said }
+pub returns-then-self-gt0-clause-runs : goal.returns-then-self-gt0-clause-runs
+returns-then-self-gt0-clause-runs c = by_law c.args.self.now _ (search rules)
+
+pub returns-then-self-gt0-clause-mutes : goal.returns-then-self-gt0-clause-mutes
+returns-then-self-gt0-clause-mutes c = mutes_pass c.args.self.now _ (search rules)
+
+pub returns-then-self-gt0-2-clause-runs : goal.returns-then-self-gt0-2-clause-runs
+returns-then-self-gt0-2-clause-runs c = by_law c.args.self.now _ (search rules)
+
+pub returns-then-self-gt0-2-clause-mutes : goal.returns-then-self-gt0-2-clause-mutes
+returns-then-self-gt0-2-clause-mutes c = mutes_pass c.args.self.now _ (search rules)
+
+pub returns-then-self-clause-runs : goal.returns-then-self-clause-runs
+returns-then-self-clause-runs c = by_law c.args.self.now _ (search rules)
+
+pub returns-else-self-clause-runs : goal.returns-else-self-clause-runs
+returns-else-self-clause-runs c = by_law c.args.self.now _ (search rules)
+
+pub returns-else-self-clause-mutes : goal.returns-else-self-clause-mutes
+returns-else-self-clause-mutes c = mutes_pass c.args.self.now _ (search rules)
