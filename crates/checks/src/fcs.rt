@@ -42,7 +42,7 @@ pub type Fcs16 = Fcs<Bits16>;
 // The 32-bit frame check sequence.
 pub type Fcs32 = Fcs<Bits32>;
 
-// by hand, since a derive does not reach a generic struct with a ghost field
+// by hand: the derives of `Clone` and `Copy` are refused on a generic struct with a ghost field
 impl<S: Kind> Clone for Fcs<S> {
     ghost is_clone = { λ c d. d ≡ c };
 

@@ -3,8 +3,8 @@ ghost use Rattle.std.proofs.Common.{refl, sym, ◌∙◌};
 
 use crate::traits::{LineCode, SettlingCode};
 
-// The line code that alters nothing. It is told over the whole list, and `Mirrored` octet by octet; as one generic type neither
-// would be the unit value that it is.
+// The line code that alters nothing. It is told over the whole list, and `Mirrored` octet by octet: one generic type would be
+// no unit value, and a trait for both would ask each for the same laws again. All that they share is `receive`.
 #[derive(Clone, Copy, Debug, PartialEq, Eq)]
 pub struct Straight;
 

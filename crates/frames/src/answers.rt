@@ -13,6 +13,7 @@ pub enum Refusal {
 }
 
 impl Refusal {
+    // One line for each enum that has numbers: a trait for them would have each enum's numbers to state all the same.
     pub fn number(self) -> u8
         ensures { result ≡ refusal_number self }
     {
@@ -21,7 +22,7 @@ impl Refusal {
 }
 
 // What was turned down is given back, with the reason.
-#[derive(Clone, Copy, Drop)]
+#[derive(Clone, Copy, Debug, Drop, PartialEq, Eq)]
 pub struct Refused<T> {
     pub given: T,
     pub refusal: Refusal,

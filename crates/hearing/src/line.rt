@@ -63,7 +63,8 @@ fn note(
     Ok(())
 }
 
-// The length of the next stretch, and the further ones. Behind the last there is one for all that is left.
+// The length of the next stretch, and the further ones. Behind the last there is one for all that is left, whose length is a
+// number too, the largest: as an `Option` it would be turned into one at once.
 fn next_cut(cuts: &[usize]) -> (usize, &[usize])
     ensures cut { result.0 ≡ next_stretch cuts.now }
     ensures further { result.1.now ≡ drop 1 cuts.now }

@@ -20,7 +20,7 @@ fn digits_for(code: Code, line: &[u8]) -> Option<&[u8]>
     strip(rest, b" ")
 }
 
-// The code that the line asks for, and the digits behind it.
+// The code that the line asks for, and the digits behind it. A loop: a `find_map` was tried, and its goal did not close.
 #[tactic(auto, unfolding(crate::specs::Listing::request))]
 pub fn request(line: &[u8]) -> Option<(Code, &[u8])>
     ensures { option_map (λ asked. (asked.0, asked.1.now)) result ≡ request line.now }

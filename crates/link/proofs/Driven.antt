@@ -18,8 +18,29 @@ use Rattle.sender.specs.Outcomes.{Taken, opening_refusal, adding_refusal, Openin
 use Rattle.link.specs.declared.answer.TurnedDown.TheVariants.{Refused}
 use Rattle.link.specs.declared.calling.Sender.{Sender}
 use Rattle.link.specs.declared.calling.Sender.TheVariants as sender
-use Rattle.link.specs.Answering.{answered_as, opened_as, ended_as}
+use Rattle.link.specs.declared.answer.TurnedDown.TheVariants as turned
+use Rattle.link.specs.declared.calling.Called.{Called}
+use Rattle.link.specs.Answering.{answered_as, Crosses}
 use Rattle.link.specs.Driving.{Stands, Driven, IfAllowed, CallsOn}
+
+-- a sender that crossed its states, as one value
+abbrev pub opened_as : {L K : Type 0} → Result (Open L K × ℕ) (TurnedBack (Idle L K)) → Called L K
+opened_as (Ok (s, written)) = record { sender = sender.Open s; answer = Ok written }
+opened_as (Err e) = record { sender = sender.Idle e.given; answer = Err (turned.Refused e.refusal) }
+
+abbrev pub ended_as : {L K : Type 0} → Result (Idle L K × ℕ) (TurnedBack (Open L K)) → Called L K
+ended_as (Ok (s, written)) = record { sender = sender.Idle s; answer = Ok written }
+ended_as (Err e) = record { sender = sender.Open e.given; answer = Err (turned.Refused e.refusal) }
+
+pub opened_is : {L K : Type 0} (r : Result (Open L K × ℕ) (TurnedBack (Idle L K))) (c : Called L K)
+    → Crosses (λ a s. s ≡ sender.Open a) (λ b s. s ≡ sender.Idle b) r c → c ≡ opened_as r
+opened_is (Ok (s, written)) c h = λ i. record { sender = h.0 i; answer = h.1 i }
+opened_is (Err e) c h = λ i. record { sender = h.0 i; answer = h.1 i }
+
+pub ended_is : {L K : Type 0} (r : Result (Idle L K × ℕ) (TurnedBack (Open L K))) (c : Called L K)
+    → Crosses (λ a s. s ≡ sender.Idle a) (λ b s. s ≡ sender.Open b) r c → c ≡ ended_as r
+ended_is (Ok (s, written)) c h = λ i. record { sender = h.0 i; answer = h.1 i }
+ended_is (Err e) c h = λ i. record { sender = h.0 i; answer = h.1 i }
 
 module _ {L K : Type 0} (onward : L → List ℕ → List ℕ) (owes : K → List ℕ → List ℕ) (owed : List ℕ → List ℕ) (fits : (m : List ℕ) → Octets m → Octets (owed m)) (before left : List ℕ) where
   module _ (start : List ℕ → List ℕ) (σ : Terms) (φ : Frame) (sent : List ℕ) (κ : Call) (allowed : allows φ κ ≡ true) (s s' : Sender L K) where

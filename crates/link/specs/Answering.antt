@@ -1,5 +1,5 @@
 -- The outcome of a sender's call, as a sender in either state and an answer.
-use Rattle.std.specs.Prelude.{ℕ, Ok, Err, Result}
+use Rattle.std.specs.Prelude.{◌≡◌, ℕ, Ok, Err, Result}
 use Rattle.frames.specs.declared.answers.Refusal.{Refusal}
 use Rattle.frames.specs.declared.answers.Refused.{Refused}
 use Rattle.sender.specs.declared.idle.Idle.{Idle}
@@ -21,10 +21,7 @@ answered_as (Err refusal) = Err (turned_down.Refused refusal)
 abbrev pub stayed_as : {L K : Type 0} → Sender L K → Result ℕ Refusal → Called L K
 stayed_as s outcome = record { sender = s; answer = answered_as outcome }
 
-abbrev pub opened_as : {L K : Type 0} → Result (Open L K × ℕ) (Refused (Idle L K)) → Called L K
-opened_as (Ok (s, written)) = record { sender = sender.Open s; answer = Ok written }
-opened_as (Err e) = record { sender = sender.Idle e.given; answer = Err (turned_down.Refused e.refusal) }
-
-abbrev pub ended_as : {L K : Type 0} → Result (Idle L K × ℕ) (Refused (Open L K)) → Called L K
-ended_as (Ok (s, written)) = record { sender = sender.Idle s; answer = Ok written }
-ended_as (Err e) = record { sender = sender.Open e.given; answer = Err (turned_down.Refused e.refusal) }
+-- a sender in its other state, or the same one given back, each as a sender in either state
+abbrev pub Crosses : {L K A B : Type 0} → (A → Sender L K → Type 0) → (B → Sender L K → Type 0) → Result (A × ℕ) (Refused B) → Called L K → Type 0
+Crosses other back (Ok (a, written)) called = other a called.sender × (called.answer ≡ Ok written)
+Crosses other back (Err e) called = back e.given called.sender × (called.answer ≡ Err (turned_down.Refused e.refusal))

@@ -1,4 +1,5 @@
--- The receiver's values as the definitions take them.
+-- The receiver's values as the definitions take them. The members of the bounds are handed over one by one, here and above,
+-- so that a reader sees which of them a fact speaks of.
 use Rattle.std.specs.Prelude.{◌≡◌, ℕ, Bool, List, length, take, Some, None, Ok, Err, Option, Result, ◌≢◌}
 use Rattle.codes.specs.Rules.{Steps, Alike, after}
 use Rattle.std.specs.Option.{option_map}

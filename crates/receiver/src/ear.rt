@@ -12,7 +12,8 @@ use frames::{
     Standing,
 };
 
-// What a receiver has in hand since the last flag, behind its line code.
+// What a receiver has in hand since the last flag, behind its line code. The settings are lent to each call, so that no
+// contract need say that they stay.
 #[derive(Drop)]
 pub struct Gatherer<K> {
     check: K,

@@ -5,8 +5,8 @@ use std::marker::Model;
 // The most octets that any good frame has between its flags: header, 2,048 of information and four check octets.
 const MOST: usize = 2056;
 
-// The octets gathered since the last flag. It has all its memory from the start. The kit's `ArrayVec` would clear by a write
-// to each octet that it holds, and here a flag costs no more than any octet.
+// The octets gathered since the last flag. It has all its memory from the start. The kit's `ArrayVec` clears by a write to each
+// octet that it holds, and of an octet that is heard, a flag too, constant work is asked.
 #[derive(Drop)]
 pub struct Gathered {
     octets: [u8; MOST],

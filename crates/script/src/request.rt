@@ -4,7 +4,8 @@ ghost use Rattle.script.specs.Rows.{letter_of};
 
 use frames::Request;
 
-// A request's letter, as a listing has it. A `match`, since a case that holds a value cannot be cast to a number.
+// A request's letter, as a listing has it. The letters stand in two matches: one reads a letter, which may be none of
+// these, and this one names a request's, whose cases hold values.
 pub fn letter(request: &Request<Vec<u8>>) -> u8
     ensures { result ≡ letter_of (owned_call request.now) }
 {

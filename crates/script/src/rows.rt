@@ -1,5 +1,6 @@
-ghost use Rattle.std.specs.Prelude.{◌≡◌, ◌++◌, is_ok, IfOk, if◌then◌else◌, Some, Ok, Err};
+ghost use Rattle.std.specs.Prelude.{◌≡◌, is_ok, IfOk, Some, Ok, Err};
 ghost use Rattle.script.specs.Rows.{fields_of_report, row_text, unfit_row, names_line};
+ghost use Rattle.text.specs.Appending.{appended};
 
 use frames::{Delivered, Faulty, Report};
 use std::alloc::{AllocError, Global};
@@ -11,7 +12,7 @@ const UNFIT: u8 = b'?';
 const UNFIT_NUMBER: u8 = 31;
 
 // A call's row: its letter, the number of its answer, the octets that it put on the line and the report that they
-// raised. Letter and number are as the listing has them, and may be any, so they are no enums.
+// raised. A host may give any letter and any number, as a listing has them, so no narrower type fits.
 #[derive(Clone, Copy, Debug, PartialEq, Eq)]
 pub struct Row<'a> {
     pub letter: u8,
@@ -34,6 +35,8 @@ impl Row<'_> {
     }
 }
 
+// A report's columns are built by hand: a `Display` for them was tried, and its proof did not close, since in `fmt` the
+// bounds of the numbers within the report are not at hand.
 fn delivered_fields(heap: Global, delivered: Delivered<usize>) -> Result<Vec<u8>, AllocError>
     ensures { IfOk result (λ v. v.items ≡ fields_of_report (Some (Ok delivered))) }
 {
@@ -81,7 +84,7 @@ fn text_of(heap: Global, row: &Row<'_>) -> Result<Vec<u8>, AllocError>
 
 // One row behind what is there, or nothing where there is no memory for all of it.
 pub fn push_row(out: &mut Vec<u8>, row: &Row<'_>) -> Result<(), AllocError>
-    ensures { out.new.items ≡ (if is_ok result then out.old.items ++ row_text row.now else out.old.items) }
+    ensures { out.new.items ≡ appended (is_ok result) out.old.items (row_text row.now) }
 {
     let text = text_of(*out.allocator(), row)?;
     out.extend_from_slice(&text)
@@ -89,14 +92,14 @@ pub fn push_row(out: &mut Vec<u8>, row: &Row<'_>) -> Result<(), AllocError>
 
 // The row of an unfit line.
 pub fn push_unfit(out: &mut Vec<u8>) -> Result<(), AllocError>
-    ensures { out.new.items ≡ (if is_ok result then out.old.items ++ unfit_row else out.old.items) }
+    ensures { out.new.items ≡ appended (is_ok result) out.old.items unfit_row }
 {
     push_row(out, &Row::unfit())
 }
 
 // The names of the columns.
 pub fn push_names(out: &mut Vec<u8>) -> Result<(), AllocError>
-    ensures { out.new.items ≡ (if is_ok result then out.old.items ++ names_line else out.old.items) }
+    ensures { out.new.items ≡ appended (is_ok result) out.old.items names_line }
 {
     out.extend_from_slice(b"call,answer,line,report,number,sapi,count\n")
 }

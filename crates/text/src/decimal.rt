@@ -1,4 +1,5 @@
-ghost use Rattle.std.specs.Prelude.{◌≡◌, ◌++◌, is_ok, IfOk, if◌then◌else◌, Some, string_bytes};
+ghost use Rattle.std.specs.Prelude.{◌≡◌, is_ok, IfOk, Some, string_bytes};
+ghost use Rattle.text.specs.Appending.{appended};
 ghost use Rattle.text.specs.Decimal.{decimal, undecimal, number_with_digit, read_on};
 
 use std::alloc::{AllocError, Global};
@@ -13,7 +14,7 @@ fn digits(heap: Global, number: usize) -> Result<String, AllocError>
 
 // The number in decimal digits behind what is there, or nothing where there is no memory for all of them.
 pub fn push_decimal(out: &mut Vec<u8>, number: usize) -> Result<(), AllocError>
-    ensures { out.new.items ≡ (if is_ok result then out.old.items ++ decimal number else out.old.items) }
+    ensures { out.new.items ≡ appended (is_ok result) out.old.items (decimal number) }
 {
     let written = digits(*out.allocator(), number)?;
     out.extend_from_slice(written.as_bytes())
@@ -29,7 +30,8 @@ fn with_digit(number: u16, code: u8) -> Option<u16>
     }
 }
 
-// The number that digits write, none of which may be left out.
+// The number that digits write, none of which may be left out. A loop: a `try_fold` was tried, and its goal did not
+// close. It is no `parse::<u16>`, which takes a sign too.
 fn read_digits(text: &[u8]) -> Option<u16>
     ensures { result ≡ read_on (Some 0) text.now }
 {

@@ -5,6 +5,7 @@ use crate::ip::{ipv4, ipv6};
 use crate::mac::mac;
 use crate::parts::{Refusal, View};
 
+// the numbers once more: views stand apart from the ends, and `frames` would bring all of those in
 const MAC_SAPI: u16 = 0xfe01;
 
 const IPV4_SAPI: u16 = 0x0021;

@@ -125,8 +125,14 @@ module _ (t n : ℕ) (t-in : 1 ≤ t) (n-in : 1 ≤ n) where
 
 -- the same of what a tick of a watch said, whatever history led there
 module _ (w : LinkWatch) (r : Indication) (said : r ≡ says (standing w)) where
+  timer_from : 1 ≤ w.timer.from
+  timer_from = let a = w.timer.left_in in omega arith
+
+  tries_from : 1 ≤ w.tries.from
+  tries_from = let a = w.tries.left_in in omega arith
+
   pub by_law : ByLaw (standing w) r
-  by_law h e = said ∙ ap says e ∙ runs w.timer w.tries w.timer_in.0 w.tries_in.0 h
+  by_law h e = said ∙ ap says e ∙ runs w.timer.from w.tries.from timer_from tries_from h
 
   pub mutes_pass : MutesPass (standing w) r
-  mutes_pass h e q = said ∙ ap says e ∙ mutes w.timer w.tries w.timer_in.0 w.tries_in.0 h (sym (ap (λ x. x.muted) e) ∙ q)
+  mutes_pass h e q = said ∙ ap says e ∙ mutes w.timer.from w.tries.from timer_from tries_from h (sym (ap (λ x. x.muted) e) ∙ q)

@@ -15,7 +15,7 @@ pub record Standing : Type 0 where
   pub muted : Bool
 
 abbrev pub standing : LinkWatch → Standing
-standing w = record { timer = w.timer; tries = w.tries; left = w.left; tries_left = w.tries_left; muted = w.muted }
+standing w = record { timer = w.timer.from; tries = w.tries.from; left = w.timer.left; tries_left = w.tries.left; muted = w.muted }
 
 -- a new watch: the whole of T is left, and all N tries
 abbrev pub fresh : ℕ → ℕ → Standing

@@ -3,18 +3,22 @@ ghost use Rattle.std.specs.Prelude.{◌≤◌};
 mod calls;
 pub mod line_test;
 
-// A link watch: T is `timer`, in tenths of a second, and N is `tries`. The fields hold where the count stands.
+// A link watch: T is where `timer` begins, in tenths of a second, and N is where `tries` begins.
 #[derive(Drop, Debug, PartialEq, Eq)]
 pub struct LinkWatch {
-    timer: u32,
-    tries: u32,
-    left: u32,
-    tries_left: u32,
+    timer: Countdown,
+    tries: Countdown,
     muted: bool,
-    ghost timer_in: { (1 ≤ timer) × (timer ≤ 600) },
-    ghost tries_in: { (1 ≤ tries) × (tries ≤ 255) },
-    ghost left_in: { (1 ≤ left) × (left ≤ timer) },
-    ghost tries_left_in: { (1 ≤ tries_left) × (tries_left ≤ tries) },
+    ghost timer_in: { timer.from ≤ 600 },
+    ghost tries_in: { tries.from ≤ 255 },
+}
+
+// A count from `from` down, that begins again as soon as none is left.
+#[derive(Drop, Debug, PartialEq, Eq)]
+struct Countdown {
+    from: u32,
+    left: u32,
+    ghost left_in: { (1 ≤ left) × (left ≤ from) },
 }
 
 // What a tick tells the host.

@@ -1,9 +1,9 @@
-ghost use Rattle.std.specs.Prelude.{◌≡◌, ◌↔◌, IsOk, IfErr};
+ghost use Rattle.std.specs.Prelude.{◌≡◌, ◌↔◌, IsOk, IfOk, IfErr};
 ghost use Rattle.frames.specs.Of.{terms, Made};
 ghost use Rattle.frames.specs.Terms.{serves, limit};
 
 use super::Settings;
-use crate::answers::Refusal;
+use crate::answers::{Refusal, Refused};
 use crate::layout::HEADER;
 use checks::Check;
 
@@ -73,15 +73,19 @@ impl Settings {
         HEADER + self.longest + self.width
     }
 
-    // Whether an end over this kind of check can be made: it has the width that the settings say, or they are refused.
-    pub fn allow<K: Check>(&self) -> Result<(), Refusal>
+    // What an end is to be made of, if the kind of check has the width that the settings say; else it is given back.
+    pub fn allow<K: Check, T>(&self, given: T) -> Result<T, Refused<T>>
         ensures allowed { IsOk result ↔ ((terms self.now).width ≡ K.Check.width) }
-        ensures refused { IfErr result (λ r. r ≡ Refusal.Settings) }
+        ensures passed_on { IfOk result (λ t. t ≡ given) }
+        ensures refused { IfErr result (λ e. (e.given ≡ given) × (e.refusal ≡ Refusal.Settings)) }
     {
         if self.width == K::octet_count() {
-            Ok(())
+            Ok(given)
         } else {
-            Err(Refusal::Settings)
+            Err(Refused {
+                given,
+                refusal: Refusal::Settings,
+            })
         }
     }
 }

@@ -2,7 +2,7 @@ ghost use Rattle.std.specs.Prelude.{◌≡◌};
 ghost use Rattle.octets.specs.Octets.{Octets};
 ghost use Rattle.frames.specs.Calls.{Typed};
 ghost use Rattle.frames.specs.Of.{lent_call};
-ghost use Rattle.link.specs.Answering.{opened_as, ended_as, stayed_as};
+ghost use Rattle.link.specs.Answering.{Crosses, stayed_as};
 ghost use Rattle.link.specs.Driving.{CallsOn};
 
 use super::{Called, Sender};
@@ -20,7 +20,7 @@ impl<L: LineCode, K: Check + Drop> Sender<L, K> {
     {
         well_typed(request);
         match (self, request) {
-            (Sender::Idle(idle), Request::Open(sapi)) => opened(idle.open(sapi, stretch)),
+            (Sender::Idle(idle), Request::Open(sapi)) => crossed(idle.open(sapi, stretch)),
             (Sender::Idle(mut idle), Request::Fill(flags)) => {
                 let outcome = idle.fill(flags, stretch);
                 stayed(Sender::Idle(idle), outcome)
@@ -33,9 +33,9 @@ impl<L: LineCode, K: Check + Drop> Sender<L, K> {
                 let outcome = open.adapt(pairs, stretch);
                 stayed(Sender::Open(open), outcome)
             }
-            (Sender::Open(open), Request::Close) => ended(open.close(stretch)),
-            (Sender::Open(open), Request::Abort) => ended(open.abort(stretch)),
-            (Sender::Open(open), Request::Spoil) => ended(open.spoil(stretch)),
+            (Sender::Open(open), Request::Close) => crossed(open.close(stretch)),
+            (Sender::Open(open), Request::Abort) => crossed(open.abort(stretch)),
+            (Sender::Open(open), Request::Spoil) => crossed(open.spoil(stretch)),
             (sender, _) => Called {
                 sender,
                 answer: Err(TurnedDown::NotAllowed),
@@ -54,33 +54,19 @@ fn stayed<L, K>(sender: Sender<L, K>, outcome: Result<usize, Refusal>) -> Called
     }
 }
 
-// A frame was to be opened. It and the next function cross the two states in opposite ways: as one they would be handed the
-// two cases to wrap in, and each call would read longer than its `match`.
-fn opened<L, K>(outcome: Result<(Open<L, K>, usize), Refused<Idle<L, K>>>) -> Called<L, K>
-    ensures { result ≡ opened_as outcome }
+// The call took the sender to its other state, or it was turned down and gave the sender back.
+fn crossed<L, K, A: Into<Sender<L, K>>, B: Into<Sender<L, K>>>(
+    outcome: Result<(A, usize), Refused<B>>,
+) -> Called<L, K>
+    ensures { Crosses A.Into.converts B.Into.converts outcome result }
 {
     match outcome {
-        Ok((open, written)) => Called {
-            sender: Sender::Open(open),
+        Ok((other, written)) => Called {
+            sender: other.into(),
             answer: Ok(written),
         },
         Err(Refused { given, refusal }) => Called {
-            sender: Sender::Idle(given),
-            answer: Err(refusal.into()),
-        },
-    }
-}
-
-fn ended<L, K>(outcome: Result<(Idle<L, K>, usize), Refused<Open<L, K>>>) -> Called<L, K>
-    ensures { result ≡ ended_as outcome }
-{
-    match outcome {
-        Ok((idle, written)) => Called {
-            sender: Sender::Idle(idle),
-            answer: Ok(written),
-        },
-        Err(Refused { given, refusal }) => Called {
-            sender: Sender::Open(given),
+            sender: given.into(),
             answer: Err(refusal.into()),
         },
     }

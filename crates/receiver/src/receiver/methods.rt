@@ -10,17 +10,12 @@ impl<L: LineCode, K: Check + Drop> Receiver<L, K> {
     pub fn new(settings: Settings, line: L) -> Result<Receiver<L, K>, Refused<L>>
         ensures { Making K.Check.passes K.Check.good K.Check.width settings line result }
     {
-        match settings.allow::<K>() {
-            Ok(()) => Ok(Receiver {
-                settings,
-                line,
-                ear: Gatherer::new(),
-            }),
-            Err(refusal) => Err(Refused {
-                given: line,
-                refusal,
-            }),
-        }
+        let line = settings.allow::<K, L>(line)?;
+        Ok(Receiver {
+            settings,
+            line,
+            ear: Gatherer::new(),
+        })
     }
 
     // Hears a stretch up to the octet that raises a report, else all of it, and answers how many octets were used and the

@@ -16,12 +16,7 @@ impl<L: LineCode, K: Check> Idle<L, K> {
     pub fn new(settings: Settings, line: L) -> Result<Idle<L, K>, Refused<L>>
         ensures { Making K.Check.width settings line result }
     {
-        if let Err(refusal) = settings.allow::<K>() {
-            return Err(Refused {
-                given: line,
-                refusal,
-            });
-        }
+        let line = settings.allow::<K, L>(line)?;
         Ok(Idle {
             settings,
             line,

@@ -1,8 +1,8 @@
-ghost use Rattle.std.specs.Prelude.{◌≡◌};
+ghost use Rattle.std.specs.Prelude.{◌≡◌, ◌≤◌, ◌-◌, ◌==◌, cond};
 ghost use Rattle.watch.specs.Runs.{ByLaw, MutesPass};
 ghost use Rattle.watch.specs.Watch.{standing, outcome, made, ticked, says, heard_again, number_of};
 
-use super::{Indication, LinkWatch, Refusal};
+use super::{Countdown, Indication, LinkWatch, Refusal};
 
 impl LinkWatch {
     // A watch of T tenths of a second and N tries, as if the link had just been heard.
@@ -13,10 +13,8 @@ impl LinkWatch {
             return Err(Refusal::Timer);
         }
         Ok(LinkWatch {
-            timer,
-            tries,
-            left: timer,
-            tries_left: tries,
+            timer: Countdown::new(timer),
+            tries: Countdown::new(tries),
             muted: false,
         })
     }
@@ -25,31 +23,51 @@ impl LinkWatch {
     pub fn heard(&mut self)
         ensures { standing self.new ≡ heard_again (standing self.old) }
     {
-        (self.left, self.tries_left) = (self.timer, self.tries);
+        self.timer.restart();
+        self.tries.restart();
     }
 
     // A tenth of a second has passed. The count goes on while muted.
+    #[tactic(auto, using(crate::proofs::Runs::by_law, crate::proofs::Runs::mutes_pass))]
     pub fn tick(&mut self) -> Indication
         ensures stands { standing self.new ≡ ticked (standing self.old) }
         ensures indicates { result ≡ says (standing self.old) }
         ensures runs { ByLaw (standing self.old) result }
         ensures mutes { MutesPass (standing self.old) result }
     {
-        self.left -= 1;
-        if self.left > 0 {
-            return Indication::Quiet;
-        }
-        self.left = self.timer;
-        self.tries_left -= 1;
-        if self.tries_left > 0 {
-            return Indication::Quiet;
-        }
-        self.tries_left = self.tries;
-        if self.muted {
-            Indication::Quiet
-        } else {
+        if self.timer.tick() && self.tries.tick() && !self.muted {
             Indication::LinkError
+        } else {
+            Indication::Quiet
         }
+    }
+}
+
+impl Countdown {
+    fn new(from: u32) -> Countdown
+        requires { 1 ≤ from }
+        ensures begins { result.from ≡ from }
+        ensures whole { result.left ≡ from }
+    {
+        Countdown { from, left: from }
+    }
+
+    fn restart(&mut self)
+        ensures same { self.new.from ≡ self.old.from }
+        ensures whole { self.new.left ≡ self.old.from }
+    {
+        self.left = self.from;
+    }
+
+    // Takes one, and tells whether it was the last: the count has then begun again.
+    fn tick(&mut self) -> bool
+        ensures last { result ≡ (self.old.left - 1 == 0) }
+        ensures same { self.new.from ≡ self.old.from }
+        ensures goes_on { self.new.left ≡ cond result self.old.from (self.old.left - 1) }
+    {
+        let last = self.left == 1;
+        self.left = if last { self.from } else { self.left - 1 };
+        last
     }
 }
 
