@@ -12,15 +12,18 @@ pub struct Carried {
     pub back: Vec<u8>,
 }
 
-// Over a line from a sender to a receiver that begins as the sender did: the octets come back.
-fn through<L: LineCode + Copy>(heap: Global, code: L, octets: &[u8]) -> Result<Carried, AllocError>
-    ensures line { IfOk result (λ c. c.line.items ≡ L.LineCode.onward code octets.now) }
-    ensures back { IfOk result (λ c. c.back.items ≡ octets.now) }
+// Over a line from a sender to a receiver: the octets come back where the two began alike.
+fn through<L: LineCode + Drop>(
+    heap: Global,
+    mut sender: L,
+    mut receiver: L,
+    octets: &[u8],
+) -> Result<Carried, AllocError>
+    ensures line { IfOk result (λ c. c.line.items ≡ L.LineCode.onward sender octets.now) }
+    ensures back { IfOk result (λ c. (L.LineCode.back receiver ≡ L.LineCode.back sender → c.back.items ≡ octets.now)) }
 {
-    let mut sender = code;
     let mut line = Vec::from_slice(heap, octets)?;
     send_all(&mut sender, line.as_mut_slice());
-    let mut receiver = code;
     let mut back = line.clone()?;
     receive_all(&mut receiver, back.as_mut_slice());
     Ok(Carried { line, back })
@@ -32,10 +35,15 @@ pub fn carry(heap: Global, code: Code, octets: &[u8]) -> Result<Carried, AllocEr
     ensures back { IfOk result (λ c. c.back.items ≡ octets.now) }
 {
     match code {
-        Code::Straight => through(heap, Straight, octets),
-        Code::Mirrored => through(heap, Mirrored, octets),
-        Code::Scrambler => through(heap, Scrambler::new(0), octets),
-        Code::Pile => through(heap, scrambler_over_mirrored(), octets),
+        Code::Straight => through(heap, Straight, Straight, octets),
+        Code::Mirrored => through(heap, Mirrored, Mirrored, octets),
+        Code::Scrambler => through(heap, Scrambler::new(0), Scrambler::new(0), octets),
+        Code::Pile => through(
+            heap,
+            scrambler_over_mirrored(),
+            scrambler_over_mirrored(),
+            octets,
+        ),
     }
 }
 

@@ -3,14 +3,17 @@
 
 use listing::run_script;
 use std::io;
-use std::io::{Read, Write};
+use std::io::{BufReader, Read, Write};
 
 // One octet more than a script may have tells that it has more.
-const MOST: u64 = 16385;
+const MOST: usize = 16385;
 
 fn main(rt: HostRuntime) -> io::Result<()> {
     let mut script = Vec::new(rt.alloc());
-    rt.stdin().take(MOST).read_to_end(&mut script)?;
+    // each read asks for all that a script may still have: where the input comes in packets, what a shorter read leaves of one
+    // is lost
+    let input = rt.stdin().take(MOST as u64);
+    BufReader::with_capacity(rt.alloc(), MOST, input)?.read_to_end(&mut script)?;
     let listing = run_script(rt.alloc(), &script)?;
     rt.stdout().write_all(&listing)
 }

@@ -54,7 +54,8 @@ impl<K: Check + Drop> Gatherer<K> {
         self.standing = Standing::Gathering;
     }
 
-    // What a flag makes of what came before it.
+    // What a flag makes of what came before it. In line, as `end` is, so that an octet that is no flag pays nothing for it.
+    #[inline(always)]
     fn verdict(&self, settings: &Settings, delivery: &mut [u8]) -> Option<Report<usize>>
         ensures report { result ≡ option_map report_of (verdict (terms settings.now) (length delivery.old) (ear K.Check.passes self.now) self.now.standing) }
         ensures delivery { delivery.new ≡ delivered (verdict (terms settings.now) (length delivery.old) (ear K.Check.passes self.now) self.now.standing) delivery.old }
@@ -74,6 +75,7 @@ impl<K: Check + Drop> Gatherer<K> {
     }
 
     // A flag ends what came before it, and the next frame begins.
+    #[inline(always)]
     fn end(&mut self, settings: &Settings, delivery: &mut [u8]) -> Option<Report<usize>>
         ensures report { result ≡ option_map report_of (verdict (terms settings.now) (length delivery.old) (ear K.Check.passes self.old) self.old.standing) }
         ensures delivery { delivery.new ≡ delivered (verdict (terms settings.now) (length delivery.old) (ear K.Check.passes self.old) self.old.standing) delivery.old }
@@ -84,7 +86,8 @@ impl<K: Check + Drop> Gatherer<K> {
         report
     }
 
-    // One octet as the line code gives it back.
+    // One octet as the line code gives it back. A flag with nothing before it has nothing to report, and is told apart first,
+    // by the standing: between two frames each octet may be one.
     pub fn hear(
         &mut self,
         settings: &Settings,
@@ -96,7 +99,10 @@ impl<K: Check + Drop> Gatherer<K> {
         ensures ear { AlikeEars (ear K.Check.passes self.new) (moved (terms settings.now) K.Check.good (ear K.Check.passes self.old) octet) }
     {
         match (self.standing, octet) {
-            (_, FLAG) => return self.end(settings, delivery),
+            (Standing::Hunting, FLAG) => self.begin(),
+            (Standing::Gathering, FLAG) if self.gathered.len() == 0 => self.begin(),
+            (Standing::Gathering | Standing::AfterEscape | Standing::Skipping(_), FLAG) =>
+                return self.end(settings, delivery),
             (Standing::Hunting | Standing::Skipping(_), _) => {}
             (Standing::Gathering, ESCAPE) => self.standing = Standing::AfterEscape,
             (Standing::Gathering, _) => self.gather(settings, octet),

@@ -1,8 +1,8 @@
 -- Octets put through a line code at the front of a stretch.
-use Rattle.std.proofs.Common.{◌≡◌, ◌==◌, ℕ, zero, suc, ◌+◌, ◌*◌, ◌<◌, ◌≤◌, Option, Bool, true, false, cond, Some, None, List, [], ◌∷◌, ◌++◌, length, drop, take, replicate, slice_set, Bor, is_some, sym, refl, ap, ◌∙◌, append_assoc, arith, length-append, length-drop}
+use Rattle.std.proofs.Common.{◌≡◌, ◌==◌, ℕ, zero, suc, ◌+◌, ◌*◌, ◌<◌, ◌≤◌, Option, Bool, true, false, cond, Some, None, List, [], ◌∷◌, ◌++◌, length, drop, take, replicate, slice_set, is_some, sym, refl, ap, ◌∙◌, append_assoc, arith, length-append, length-drop}
 use Rattle.std.specs.Iterator.{AlwaysYields, Yields}
 use Rattle.std.specs.List.{count_by, flat_map}
-use Rattle.std.proofs.lemmas.List.{map-id, take_at, take_all, drop_at, drop-drop, set_split, length_push}
+use Rattle.std.proofs.lemmas.List.{map-id, take_at, take_all, drop_at, drop-drop, set_split, length_push, flat_map_more, replicate_more}
 use Rattle.std.proofs.lemmas.List.Sums.{sum_by-cons}
 use Rattle.std.proofs.lemmas.Iterator.Consumers.{YieldsList-so_far, YieldsList-end}
 use Rattle.octets.specs.Octets.{Octets}
@@ -87,6 +87,11 @@ unfolding adaptations
 adapting_repeated zero = refl
 adapting_repeated (suc k) = ap (λ l. escape ∷ 0xdd ∷ l) (adapting_repeated k)
 
-pub lent_repeated : (turn : Bor (List ℕ)) (k : ℕ) → flat_map (λ t. t.now) (replicate k turn) ≡ repeated turn.now k
-lent_repeated turn zero = refl
-lent_repeated turn (suc k) = ap (λ l. turn.now ++ l) (lent_repeated turn k)
+pub repeated_more : (turn : List ℕ) (k : ℕ) → repeated turn k ++ turn ≡ repeated turn (k + 1)
+repeated_more turn k = flat_map_more (λ os. os) [] (replicate k turn) turn ∙ ap (flat_map (λ os. os)) (replicate_more k turn)
+
+-- where a turn is still to come, there is room for it
+pub turns_within : (n k m : ℕ) → k < m → n * k + n ≤ n * m
+turns_within n k zero h = absurd (omega arith)
+turns_within n zero (suc m) h = omega arith
+turns_within n (suc k) (suc m) h = let w = turns_within n k m (omega (arith, h)) in omega (arith, w)

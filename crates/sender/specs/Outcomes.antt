@@ -27,11 +27,6 @@ pub record Refused {S : Type 0} (ground : Option Refusal) (r : Refusal) (s s' : 
   pub stretch : left ≡ before
   pub same : s' ≡ s
 
--- octets put through a line code, or turned down where the stretch is too short for them
-abbrev pub Written : {L : Type 0} → (L → List ℕ → List ℕ) → List ℕ → L → L → List ℕ → List ℕ → Result ℕ Refusal → Type 0
-Written onward os line line' before left (Ok n) = Taken (stretch_refusal os (length before)) (onward line) (onward line') os before left n
-Written onward os line line' before left (Err r) = Refused (stretch_refusal os (length before)) r line line' before left
-
 -- an unserved SAPI or too much information comes before too short a stretch
 abbrev pub opening_refusal : Terms → ℕ → ℕ → Option Refusal
 opening_refusal σ sapi room = cond (serves σ.served sapi) (stretch_refusal (opening_octets sapi) room) (Some refusal.Unserved)

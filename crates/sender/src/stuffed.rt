@@ -43,17 +43,18 @@ impl Iterator for Stuffed<'_> {
     ghost remaining = { item_count outgoing };
 
     fn next(&mut self) -> Option<u8> {
-        if self.second.is_some() {
-            return self.second.take();
+        if let Some(second) = self.second.take() {
+            return Some(second);
         }
         let (octet, rest) = self.octets.split_first()?;
         self.octets = rest;
-        self.second = escaped(*octet);
-        Some(if self.second.is_some() {
-            ESCAPE
-        } else {
-            *octet
-        })
+        match escaped(*octet) {
+            None => Some(*octet),
+            second => {
+                self.second = second;
+                Some(ESCAPE)
+            }
+        }
     }
 }
 

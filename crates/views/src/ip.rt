@@ -36,15 +36,16 @@ pub(crate) fn ipv4(information: &[u8]) -> Result<Ipv4Packet<'_>, Refusal>
     let Some((fixed, _)) = information.split_first_chunk::<20>() else {
         return Err(Refusal::IpHeader);
     };
+    let [first, _, total_high, total_low, ..] = fixed;
     let length = information.len();
-    if fixed[0] / 16 != 4 {
+    if *first / 16 != 4 {
         return Err(Refusal::IpVersion);
     }
-    let header = usize::from(fixed[0] % 16) * 4;
+    let header = usize::from(*first % 16) * 4;
     if !(20..=length).contains(&header) {
         return Err(Refusal::IpHeader);
     }
-    let total = usize::from(u16::from_be_bytes([fixed[2], fixed[3]]));
+    let total = usize::from(u16::from_be_bytes([*total_high, *total_low]));
     if !(header..=length).contains(&total) {
         return Err(Refusal::IpLength);
     }

@@ -123,7 +123,15 @@ module _ (t n : ℕ) (t-in : 1 ≤ t) (n-in : 1 ≤ n) where
       let same : indicated t n h ≡ indicated t n (untested h) = simp (e, untested_since h, untested_quiet h) in
       runs h ∙ same ∙ sym (runs (untested h))
 
--- the same of what a tick of a watch said, whatever history led there
+-- the same of what a tick said at a standing that some history led to
+module _ (s : Standing) (r : Indication) (t-in : 1 ≤ s.timer) (n-in : 1 ≤ s.tries) (said : r ≡ says s) where
+  pub by_law : ByLaw s r
+  by_law h e = said ∙ ap says e ∙ runs s.timer s.tries t-in n-in h
+
+  pub mutes_pass : MutesPass s r
+  mutes_pass h e q = said ∙ ap says e ∙ mutes s.timer s.tries t-in n-in h (sym (ap (λ x. x.muted) e) ∙ q)
+
+-- and of a watch, whose counts begin at one or more
 module _ (w : LinkWatch) (r : Indication) (said : r ≡ says (standing w)) where
   timer_from : 1 ≤ w.timer.from
   timer_from = let a = w.timer.left_in in omega arith
@@ -131,8 +139,8 @@ module _ (w : LinkWatch) (r : Indication) (said : r ≡ says (standing w)) where
   tries_from : 1 ≤ w.tries.from
   tries_from = let a = w.tries.left_in in omega arith
 
-  pub by_law : ByLaw (standing w) r
-  by_law h e = said ∙ ap says e ∙ runs w.timer.from w.tries.from timer_from tries_from h
+  pub watch_by_law : ByLaw (standing w) r
+  watch_by_law = by_law (standing w) r timer_from tries_from said
 
-  pub mutes_pass : MutesPass (standing w) r
-  mutes_pass h e q = said ∙ ap says e ∙ mutes w.timer.from w.tries.from timer_from tries_from h (sym (ap (λ x. x.muted) e) ∙ q)
+  pub watch_mutes_pass : MutesPass (standing w) r
+  watch_mutes_pass = mutes_pass (standing w) r timer_from tries_from said

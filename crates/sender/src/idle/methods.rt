@@ -3,7 +3,7 @@ ghost use Rattle.sender.specs.Outcomes.{Making, Opening, Filling};
 
 use super::Idle;
 use crate::open::Open;
-use crate::putting::{put, put_times};
+use crate::putting::{put, put_times, turns_length};
 use crate::stuffed::{Stuffed, stuffed_length};
 use checks::{Check, take_in_all};
 use codes::LineCode;
@@ -68,7 +68,10 @@ impl<L: LineCode, K: Check> Idle<L, K> {
     pub fn fill(&mut self, k: u16, stretch: &mut [u8]) -> Result<usize, Refusal>
         ensures { Filling L.LineCode.onward k self.old self.new stretch.old stretch.new result }
     {
-        put_times(&mut self.line, &[FLAG], k, stretch)
+        if turns_length(&[FLAG], k) > stretch.len() {
+            return Err(Refusal::Stretch);
+        }
+        Ok(put_times(&mut self.line, &[FLAG], k, stretch))
     }
 
     // Ends the sender and gives its line code back.

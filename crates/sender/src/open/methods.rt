@@ -5,8 +5,8 @@ ghost use Rattle.sender.specs.Outcomes.{Adding, Adapting, Ending};
 
 use super::Open;
 use crate::idle::Idle;
-use crate::putting::{put, put_times};
-use crate::stuffed::{Stuffed, stuffed_length};
+use crate::putting::{put, put_closing, put_stuffed, put_times, turns_length};
+use crate::stuffed::stuffed_length;
 use checks::{Check, CheckOctets, take_in_all};
 use codes::LineCode;
 use frames::{ADAPTATION, ESCAPE, FLAG, Refusal, Refused};
@@ -25,7 +25,7 @@ impl<L: LineCode, K: Check + Drop> Open<L, K> {
         if written > stretch.len() {
             return Err(Refusal::Stretch);
         }
-        put(&mut self.line, Stuffed::new(information), stretch);
+        put_stuffed(&mut self.line, information, stretch);
         // a pass of its own: fed in the pass above, the check would have to stand inside the iterator of stuffed octets
         take_in_all(&mut self.check, information);
         self.count += information.len();
@@ -36,7 +36,10 @@ impl<L: LineCode, K: Check + Drop> Open<L, K> {
     pub fn adapt(&mut self, k: u16, stretch: &mut [u8]) -> Result<usize, Refusal>
         ensures { Adapting L.LineCode.onward k self.old self.new stretch.old stretch.new result }
     {
-        put_times(&mut self.line, &[ESCAPE, ADAPTATION], k, stretch)
+        if turns_length(&[ESCAPE, ADAPTATION], k) > stretch.len() {
+            return Err(Refusal::Stretch);
+        }
+        Ok(put_times(&mut self.line, &[ESCAPE, ADAPTATION], k, stretch))
     }
 
     // Ends the frame with the check octets that it owes.
@@ -87,11 +90,7 @@ impl<L: LineCode, K: Check + Drop> Open<L, K> {
             });
         }
         let mut idle = self.ended();
-        put(
-            &mut idle.line,
-            Stuffed::new(owed).chain(once(FLAG)),
-            stretch,
-        );
+        put_closing(&mut idle.line, owed, stretch);
         Ok((idle, written))
     }
 

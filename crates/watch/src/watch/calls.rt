@@ -28,7 +28,7 @@ impl LinkWatch {
     }
 
     // A tenth of a second has passed. The count goes on while muted.
-    #[tactic(auto, using(crate::proofs::Runs::by_law, crate::proofs::Runs::mutes_pass))]
+    #[tactic(auto, using(crate::proofs::Runs::watch_by_law, crate::proofs::Runs::watch_mutes_pass))]
     pub fn tick(&mut self) -> Indication
         ensures stands { standing self.new ≡ ticked (standing self.old) }
         ensures indicates { result ≡ says (standing self.old) }
@@ -65,9 +65,12 @@ impl Countdown {
         ensures same { self.new.from ≡ self.old.from }
         ensures goes_on { self.new.left ≡ cond result self.old.from (self.old.left - 1) }
     {
-        let last = self.left == 1;
-        self.left = if last { self.from } else { self.left - 1 };
-        last
+        if self.left > 1 {
+            self.left -= 1;
+            return false;
+        }
+        self.restart();
+        true
     }
 }
 

@@ -1,31 +1,46 @@
-use Rattle.std.proofs.Common.{◌≡◌, ℕ, ◌*◌, ◌^◌, ◌<◌, ◌≤◌, length, replicate, ap, ◌∙◌, subst, arith, rules}
-use Rattle.std.specs.List.{flat_map}
-use Rattle.std.specs.Iterator.Adapters.{IterYieldsInOrder}
-use Rattle.std.proofs.lemmas.Iterator.{YieldsList-from_slice}
-use Rattle.std.proofs.lemmas.Iterator.Adapters.{YieldsList-from_repeat_n, YieldsList-from_flatten}
-use Rattle.std.proofs.lemmas.Iterator.Consumers.{YieldsList-at, YieldsList-from_copied}
+use Rattle.std.proofs.Common.{◌≡◌, ◌+◌, ◌*◌, ◌++◌, length, sym, ap, ◌∙◌, subst, arith}
+use Rattle.octets.specs.Octets.{Octets}
+use Rattle.octets.proofs.Joined.{octets_append}
 use Rattle.sender.specs.Writing.{Put, repeated}
-use Rattle.sender.proofs.Puts.{repeated_long, lent_repeated}
+use Rattle.sender.proofs.Puts.{put_none, repeated_long, repeated_more, turns_within}
 use Rattle.sender.proofs.putting.put_times.Goals as goal
 
-pub returns-then-written-stretch : goal.returns-then-written-stretch
-returns-then-written-stretch g c =
-    let times : length c.args.turn.now * c.from-times.result ≡ length c.args.turn.now * c.args.times = ap (λ n. length c.args.turn.now * n) c.from-times.ensures in
-    let long : length (repeated c.args.turn.now c.args.times) ≡ length c.args.turn.now * c.args.times = repeated_long c.args.turn.now c.args.times in
-    search rules
+pub loop-turn-init : goal.loop-turn-init
+loop-turn-init g c = (omega arith, tt, put_none (g.L.LineCode.onward c.args.line.now) (g.met.L.LineCode.sends c.args.line.now) c.args.stretch.now)
 
-pub returns : goal.returns
-returns g c =
+pub put_turn-next-requires : goal.put_turn-next-requires
+put_turn-next-requires g c =
     let turn = c.args.turn.now in
-    let lent = flat_map (λ t. t.now) (replicate c.args.times c.args.turn) in
-    let same : lent ≡ repeated turn c.args.times = lent_repeated c.args.turn c.args.times in
-    let times : length turn * c.from-times.result ≡ length turn * c.args.times = ap (λ n. length turn * n) c.from-times.ensures in
-    let long : length (repeated turn c.args.times) ≡ length turn * c.args.times = repeated_long turn c.args.times in
-    let room : length lent ≤ length c.args.stretch.now = omega (arith, times, long, ap length same) in
-    let road =
-    YieldsList-from_copied (YieldsList-at c.copied.ensures.source
-    (YieldsList-from_flatten (λ t it. (it.rest.now ≡ t.now) × (length it.rest.now < 2 ^ 64) × IterYieldsInOrder ℕ) _ (λ y. y.now) (λ t. t.now) (λ t it b. YieldsList-from_slice t.now b.0)
-    (YieldsList-at c.flatten.ensures.source (YieldsList-from_repeat_n (λ t u. u ≡ t) c.args.times c.args.turn (c.repeat_n.ensures.count ∙ c.from-times.ensures) c.repeat_n.ensures.item (λ t e. e)))
-    c.flatten.ensures.front c.flatten.ensures.back c.flatten.ensures.done)) in
-    let p = subst (λ os. Put (g.L.LineCode.onward c.args.line.now) (g.L.LineCode.onward c.put.new.line) os c.args.stretch.now c.put.new.stretch) same (c.put.ensures lent road.runs room) in
-    search rules
+    omega (arith, turns_within (length turn) c.loop-turn._turn c.args.times c.loop-turn-test.true, c.loop-turn.invariant.0, c.loop-turn.auto.stretch, repeated_long turn c.args.times, c.requires)
+
+pub loop-turn-preserved : goal.loop-turn-preserved
+loop-turn-preserved g c =
+    let l = c.loop-turn in
+    let v = l.invariant in
+    let k = l._turn in
+    let turn = c.args.turn.now in
+    let before = c.args.stretch.now in
+    let f = g.L.LineCode.onward c.args.line.now in
+    let put = c.put_turn-next.ensures in
+    let more : repeated turn k ++ turn ≡ repeated turn (k + 1) = repeated_more turn k in
+    let long : length (repeated turn k) ≡ l.next = repeated_long turn k ∙ sym v.0 in
+    let next : length turn * (k + 1) ≡ length turn * k + length turn = omega arith in
+    let same : length before ≡ length l.stretch = omega (arith, l.auto.stretch) in (
+      omega (arith, put.place, v.0, next),
+      subst Octets more (octets_append (repeated turn k) turn v.1 put.octets),
+      subst (λ os. Put f (g.L.LineCode.onward c.put_turn-next.new.line) os before c.put_turn-next.new.stretch) more
+          (put.puts f (repeated turn k) before (g.met.L.LineCode.sends c.args.line.now) v.1 long same v.2),
+    )
+
+pub returns-clause-count : goal.returns-clause-count
+returns-clause-count g c =
+    let l = c.loop-turn in
+    let turn = c.args.turn.now in
+    let ended : l._turn ≡ c.args.times = omega (arith, l.auto._turn-end, c.loop-turn-test.false) in
+    l.invariant.0 ∙ ap (λ n. length turn * n) ended ∙ sym (repeated_long turn c.args.times)
+
+pub returns-clause-put : goal.returns-clause-put
+returns-clause-put g c =
+    let l = c.loop-turn in
+    let ended : l._turn ≡ c.args.times = omega (arith, l.auto._turn-end, c.loop-turn-test.false) in
+    subst (λ k. Put (g.L.LineCode.onward c.args.line.now) (g.L.LineCode.onward l.line) (repeated c.args.turn.now k) c.args.stretch.now l.stretch) ended l.invariant.2
